@@ -1,0 +1,6 @@
+pub mod Laws
+pub mod Polynomials
+pub mod Signs
+pub mod Certificates
+pub mod Computed
+pub mod Divisors
