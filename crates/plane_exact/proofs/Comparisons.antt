@@ -1,0 +1,110 @@
+-- Comparing whole numbers and fractions: what decides an answer, and the order of fractions.
+use Rattle.std.proofs.Common.{◌≡◌, Bool, true, false, ◌⊎◌, inl, inr, ℤ, pos, ◌-ℤ◌, ◌*ℤ◌, ◌<ℤ◌, Ordering, Less, Equal, Greater, cond, refl, sym, ◌∙◌, ap, subst, arith}
+use Rattle.std.specs.Ordering.{ordering_then, int_cmp}
+use Rattle.std.specs.Int.RustNames.{int_lt}
+use Rattle.whole_algebra.proofs.Laws.{linear}
+use Rattle.whole_algebra.proofs.Signs.{by_order, pos-*-pos, pos-*-neg, pos_factor, neg_factor, zero_factor, pos_nonzero}
+use lib.IntN.{*ℤ-zero}
+
+pub int_cmp_less : (a b : ℤ) → a <ℤ b → int_cmp a b ≡ Less
+int_cmp_less a b h = let e : true ≡ int_lt a b = omega (arith, linear, h) in ap (λ (t : Bool). cond t Less (cond (int_lt b a) Greater Equal)) (sym e)
+
+pub int_cmp_greater : (a b : ℤ) → b <ℤ a → int_cmp a b ≡ Greater
+int_cmp_greater a b h =
+    let e : false ≡ int_lt a b = omega (arith, linear, h) in
+    let f : true ≡ int_lt b a = omega (arith, linear, h) in
+    λ i. cond (sym e i) Less (cond (sym f i) Greater Equal)
+
+pub int_cmp_equal : (a b : ℤ) → a ≡ b → int_cmp a b ≡ Equal
+int_cmp_equal a b h =
+    let e : false ≡ int_lt a b = omega (arith, linear, h) in
+    let f : false ≡ int_lt b a = omega (arith, linear, h) in
+    λ i. cond (sym e i) Less (cond (sym f i) Greater Equal)
+
+-- two answers are the same where the differences are positive multiples of one number
+pub same_int_cmp : (a b c d k l : ℤ) → pos 0 <ℤ k → pos 0 <ℤ l → k *ℤ (b -ℤ a) ≡ l *ℤ (d -ℤ c) → int_cmp a b ≡ int_cmp c d
+same_int_cmp a b c d k l hk hl e = by_order a b
+    (λ h. int_cmp_less a b h ∙ sym (int_cmp_less c d (omega (arith, linear, grows h))))
+    (λ h. int_cmp_equal a b h ∙ sym (int_cmp_equal c d (omega (arith, linear, stays h))))
+    (λ h. int_cmp_greater a b h ∙ sym (int_cmp_greater c d (omega (arith, linear, falls h))))
+  where
+    grows : a <ℤ b → pos 0 <ℤ (d -ℤ c)
+    grows h = let p : pos 0 <ℤ (b -ℤ a) = omega (arith, linear, h) in pos_factor l (d -ℤ c) hl (subst (λ z. pos 0 <ℤ z) e (pos-*-pos hk p))
+
+    falls : b <ℤ a → (d -ℤ c) <ℤ pos 0
+    falls h = let p : (b -ℤ a) <ℤ pos 0 = omega (arith, linear, h) in neg_factor l (d -ℤ c) hl (subst (λ z. z <ℤ pos 0) e (pos-*-neg hk p))
+
+    stays : a ≡ b → d -ℤ c ≡ pos 0
+    stays h = let p : b -ℤ a ≡ pos 0 = omega (arith, linear, h) in zero_factor l (d -ℤ c) (pos_nonzero hl) (sym e ∙ ap (λ z. k *ℤ z) p ∙ *ℤ-zero k)
+
+-- what an answer says of the two numbers
+pub less_int_cmp : (a b : ℤ) → int_cmp a b ≡ Less → a <ℤ b
+less_int_cmp a b e = by_order a b (λ h. h) (λ h. absurd (clash (sym (int_cmp_equal a b h) ∙ e))) (λ h. absurd (clash' (sym (int_cmp_greater a b h) ∙ e)))
+  where
+    clash : Equal ≡ Less → ⊥
+    clash h = cc
+
+    clash' : Greater ≡ Less → ⊥
+    clash' h = cc
+
+pub greater_int_cmp : (a b : ℤ) → int_cmp a b ≡ Greater → b <ℤ a
+greater_int_cmp a b e = by_order a b (λ h. absurd (clash (sym (int_cmp_less a b h) ∙ e))) (λ h. absurd (clash' (sym (int_cmp_equal a b h) ∙ e))) (λ h. h)
+  where
+    clash : Less ≡ Greater → ⊥
+    clash h = cc
+
+    clash' : Equal ≡ Greater → ⊥
+    clash' h = cc
+
+pub equal_int_cmp : (a b : ℤ) → int_cmp a b ≡ Equal → a ≡ b
+equal_int_cmp a b e = by_order a b (λ h. absurd (clash (sym (int_cmp_less a b h) ∙ e))) (λ h. h) (λ h. absurd (clash' (sym (int_cmp_greater a b h) ∙ e)))
+  where
+    clash : Less ≡ Equal → ⊥
+    clash h = cc
+
+    clash' : Greater ≡ Equal → ⊥
+    clash' h = cc
+
+-- ---- one comparison, and another where it leaves the two equal
+pub then_first : (o p r : Ordering) → r ≡ o → ¬ (r ≡ Equal) → r ≡ ordering_then o p
+then_first Less p r e n = e
+then_first Equal p r e n = absurd (n e)
+then_first Greater p r e n = e
+
+pub then_second : (o p : Ordering) → o ≡ Equal → ordering_then o p ≡ p
+then_second Less p e = absurd (clash e)
+  where
+    clash : Less ≡ Equal → ⊥
+    clash h = cc
+then_second Equal p e = refl
+then_second Greater p e = absurd (clash e)
+  where
+    clash : Greater ≡ Equal → ⊥
+    clash h = cc
+
+pub then_less_from : (a b c d : ℤ) → (a <ℤ b) ⊎ ((a ≡ b) × (c <ℤ d)) → ordering_then (int_cmp a b) (int_cmp c d) ≡ Less
+then_less_from a b c d (inl h) = ap (λ o. ordering_then o (int_cmp c d)) (int_cmp_less a b h)
+then_less_from a b c d (inr h) = then_second (int_cmp a b) (int_cmp c d) (int_cmp_equal a b h.0) ∙ int_cmp_less c d h.1
+
+pub then_less_gives : (a b c d : ℤ) → ordering_then (int_cmp a b) (int_cmp c d) ≡ Less → (a <ℤ b) ⊎ ((a ≡ b) × (c <ℤ d))
+then_less_gives a b c d e = by_order a b inl
+    (λ h. inr (h, less_int_cmp c d (sym (then_second (int_cmp a b) (int_cmp c d) (int_cmp_equal a b h)) ∙ e)))
+    (λ h. absurd (clash (sym (ap (λ o. ordering_then o (int_cmp c d)) (int_cmp_greater a b h)) ∙ e)))
+  where
+    clash : Greater ≡ Less → ⊥
+    clash h = cc
+
+pub then_equal_from : (a b c d : ℤ) → a ≡ b → c ≡ d → ordering_then (int_cmp a b) (int_cmp c d) ≡ Equal
+then_equal_from a b c d e f = then_second (int_cmp a b) (int_cmp c d) (int_cmp_equal a b e) ∙ int_cmp_equal c d f
+
+pub then_equal_gives : (a b c d : ℤ) → ordering_then (int_cmp a b) (int_cmp c d) ≡ Equal → (a ≡ b) × (c ≡ d)
+then_equal_gives a b c d e = by_order a b
+    (λ h. absurd (clash (sym (ap (λ o. ordering_then o (int_cmp c d)) (int_cmp_less a b h)) ∙ e)))
+    (λ h. (h, equal_int_cmp c d (sym (then_second (int_cmp a b) (int_cmp c d) (int_cmp_equal a b h)) ∙ e)))
+    (λ h. absurd (clash' (sym (ap (λ o. ordering_then o (int_cmp c d)) (int_cmp_greater a b h)) ∙ e)))
+  where
+    clash : Less ≡ Equal → ⊥
+    clash h = cc
+
+    clash' : Greater ≡ Equal → ⊥
+    clash' h = cc

@@ -1,0 +1,22 @@
+-- Turns of positions, as the code works them out.
+use Rattle.std.proofs.Common.{◌≡◌, ◌-ℤ◌, ◌*ℤ◌, pos, [], ◌∷◌, refl}
+use Rattle.whole_algebra.proofs.Polynomials.{Poly, var, num, ◌⊕◌, ◌⊖◌, ◌⊗◌, identity}
+use Rattle.plane_exact.specs.Plane.{Point, turn}
+use Rattle.plane_exact.specs.Places.{point_of}
+use Rattle.plane_exact.specs.declared.point.Pt.{Pt}
+
+-- the determinant over polynomials, for identities
+abbrev pub turn_p : Poly → Poly → Poly → Poly → Poly → Poly → Poly → Poly → Poly → Poly
+turn_p ax ay aw bx by bw cx cy cw = ((ax ⊗ ((by ⊗ cw) ⊖ (bw ⊗ cy))) ⊖ (ay ⊗ ((bx ⊗ cw) ⊖ (bw ⊗ cx)))) ⊕ (aw ⊗ ((bx ⊗ cy) ⊖ (by ⊗ cx)))
+
+-- three positions: the cross product of two ways
+pub turn-positions : (a b c : Pt) → (b.x -ℤ a.x) *ℤ (c.y -ℤ a.y) -ℤ (b.y -ℤ a.y) *ℤ (c.x -ℤ a.x) ≡ turn (point_of a) (point_of b) (point_of c)
+unfolding turn
+turn-positions a b c =
+    identity (((var 2 ⊖ var 0) ⊗ (var 5 ⊖ var 1)) ⊖ ((var 3 ⊖ var 1) ⊗ (var 4 ⊖ var 0))) (turn_p (var 0) (var 1) (num (pos 1)) (var 2) (var 3) (num (pos 1)) (var 4) (var 5) (num (pos 1))) (a.x ∷ a.y ∷ b.x ∷ b.y ∷ c.x ∷ c.y ∷ []) refl
+
+-- two positions and any point: the point's numbers, less its weight times the first position
+pub turn-point : (a b : Pt) (p : Point) → (b.x -ℤ a.x) *ℤ (p.y -ℤ a.y *ℤ p.w) -ℤ (b.y -ℤ a.y) *ℤ (p.x -ℤ a.x *ℤ p.w) ≡ turn (point_of a) (point_of b) p
+unfolding turn
+turn-point a b p =
+    identity (((var 2 ⊖ var 0) ⊗ (var 5 ⊖ var 1 ⊗ var 6)) ⊖ ((var 3 ⊖ var 1) ⊗ (var 4 ⊖ var 0 ⊗ var 6))) (turn_p (var 0) (var 1) (num (pos 1)) (var 2) (var 3) (num (pos 1)) (var 4) (var 5) (var 6)) (a.x ∷ a.y ∷ b.x ∷ b.y ∷ p.x ∷ p.y ∷ p.w ∷ []) refl

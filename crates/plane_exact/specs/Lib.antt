@@ -1,0 +1,9 @@
+pub mod Plane
+pub mod Limits
+pub mod Places
+pub mod Signs
+pub mod Windows
+pub mod Directions
+pub mod Nodes
+pub mod NodePoints
+pub mod Orders

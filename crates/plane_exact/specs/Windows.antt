@@ -1,0 +1,37 @@
+-- Closed boxes of the plane.
+use Rattle.std.specs.Prelude.{◌*ℤ◌, ◌≤ℤ◌}
+use Rattle.plane_exact.specs.Plane.{Point}
+use Rattle.plane_exact.specs.declared.point.Pt.{Pt}
+use Rattle.plane_exact.specs.declared.window.Window.{Window}
+
+-- The point is in the box, its sides and corners included.
+pub record IsInWindow (box : Window) (p : Point) : Type 0 where
+  pub left : (box.low_x *ℤ p.w) ≤ℤ p.x
+  pub right : p.x ≤ℤ (box.high_x *ℤ p.w)
+  pub bottom : (box.low_y *ℤ p.w) ≤ℤ p.y
+  pub top : p.y ≤ℤ (box.high_y *ℤ p.w)
+
+-- Two boxes have a common point.
+pub record HasCommonPoint (box other : Window) : Type 0 where
+  pub point : Point
+  pub here : IsInWindow box point
+  pub there : IsInWindow other point
+
+-- No side of the inner box is outside of the outer one.
+pub record IsWithin (inner outer : Window) : Type 0 where
+  pub left : outer.low_x ≤ℤ inner.low_x
+  pub right : inner.high_x ≤ℤ outer.high_x
+  pub bottom : outer.low_y ≤ℤ inner.low_y
+  pub top : inner.high_y ≤ℤ outer.high_y
+
+-- The least whole box that holds a set of points: it holds them all, and is within each other box that does.
+pub record IsLeastWindow (set : Point → Type 0) (box : Window) : Type 0 where
+  pub holds : (p : Point) → set p → IsInWindow box p
+  pub least : (other : Window) → ((p : Point) → set p → IsInWindow other p) → IsWithin box other
+
+-- The corner of the low sides and the corner of the high sides.
+abbrev pub low_corner : Window → Pt
+low_corner box = record { x = box.low_x; y = box.low_y }
+
+abbrev pub high_corner : Window → Pt
+high_corner box = record { x = box.high_x; y = box.high_y }

@@ -1,0 +1,26 @@
+ghost use Rattle.std.specs.Prelude.{◌≡◌, IsTrue, ◌↔◌};
+ghost use Rattle.plane_exact.specs.Places.{IsInLimit};
+
+/// The greatest size of a coordinate.
+pub const LIMIT: i64 = 1_048_575;
+
+/// A position with whole-number coordinates.
+#[derive(Clone, Copy, Debug, PartialEq, Eq)]
+pub struct Pt {
+    pub x: i64,
+    pub y: i64,
+}
+
+/// The segment from `a` to `b`.
+#[derive(Clone, Copy, Debug, PartialEq, Eq)]
+pub struct Seg {
+    pub a: Pt,
+    pub b: Pt,
+}
+
+/// Whether both coordinates have a size of at most `LIMIT`.
+pub fn in_limit(p: Pt) -> bool
+    ensures within { IsTrue result ↔ (IsInLimit p) }
+{
+    -LIMIT <= p.x && p.x <= LIMIT && -LIMIT <= p.y && p.y <= LIMIT
+}
