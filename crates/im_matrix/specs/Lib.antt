@@ -1,0 +1,4 @@
+pub mod Cells
+pub mod Patterns
+pub mod Names
+pub mod Parts

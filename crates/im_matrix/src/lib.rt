@@ -1,0 +1,238 @@
+//! The nine-cell matrix of two figures: which part of A and which part of B have points in
+//! common, and of what dimension these are.
+#![tactic(auto)]
+
+ghost use Rattle.std.specs.Prelude.{◌≡◌, ◌≢◌};
+ghost use Rattle.im_matrix.specs.Cells.{greater, in_row, dimension_at, start_dimension, character_of, matrix_text};
+ghost use Rattle.im_matrix.specs.Patterns.{is_present};
+ghost use Rattle.im_matrix.specs.declared.Loc.{Loc};
+ghost use Rattle.im_matrix.specs.declared.Cell.{Cell};
+
+mod names;
+mod patterns;
+
+pub use names::{Name, named};
+pub use patterns::{BadPattern, Mark, Pattern};
+
+/// One of the two figures of a pair.
+#[derive(Clone, Copy, Debug, PartialEq, Eq)]
+pub enum Which {
+    /// The first figure.
+    A,
+    /// The second figure.
+    B,
+}
+
+/// A part of the plane as one figure cuts it.
+#[derive(Clone, Copy, Debug, PartialEq, Eq)]
+pub enum Loc {
+    /// The figure's interior.
+    Interior,
+    /// The figure's boundary.
+    Boundary,
+    /// What isn't in the figure.
+    Exterior,
+}
+
+/// The dimension of a set of points, from the least to the greatest.
+#[derive(Clone, Copy, Debug, PartialEq, Eq, PartialOrd, Ord)]
+pub enum Dim {
+    /// No point.
+    Empty,
+    /// Points, and no line.
+    Zero,
+    /// Lines, and no area.
+    One,
+    /// An area.
+    Two,
+}
+
+impl Dim {
+    /// The greater of the two dimensions.
+    fn greater(self, other: Dim) -> Dim
+        ensures { result ≡ greater self other }
+    {
+        match (self, other) {
+            (Dim::Two, _) | (_, Dim::Two) => Dim::Two,
+            (Dim::One, _) | (_, Dim::One) => Dim::One,
+            (Dim::Zero, _) | (_, Dim::Zero) => Dim::Zero,
+            (Dim::Empty, Dim::Empty) => Dim::Empty,
+        }
+    }
+
+    /// Whether there is a point.
+    fn is_present(self) -> bool
+        ensures { result ≡ is_present self }
+    {
+        !matches!(self, Dim::Empty)
+    }
+
+    /// The character of the dimension in a matrix's text.
+    fn character(self) -> u8
+        ensures { result ≡ character_of self }
+    {
+        match self {
+            Dim::Empty => b'F',
+            Dim::Zero => b'0',
+            Dim::One => b'1',
+            Dim::Two => b'2',
+        }
+    }
+}
+
+/// A cell of the matrix: a part of A's plane and a part of B's.
+#[derive(Clone, Copy, Debug, PartialEq, Eq)]
+pub struct Cell {
+    /// The part as A cuts the plane.
+    pub a: Loc,
+    /// The part as B cuts the plane.
+    pub b: Loc,
+}
+
+impl Cell {
+    /// The nine cells in the order II IB IE BI BB BE EI EB EE.
+    pub const ALL: [Cell; 9] = [
+        Cell {
+            a: Loc::Interior,
+            b: Loc::Interior,
+        },
+        Cell {
+            a: Loc::Interior,
+            b: Loc::Boundary,
+        },
+        Cell {
+            a: Loc::Interior,
+            b: Loc::Exterior,
+        },
+        Cell {
+            a: Loc::Boundary,
+            b: Loc::Interior,
+        },
+        Cell {
+            a: Loc::Boundary,
+            b: Loc::Boundary,
+        },
+        Cell {
+            a: Loc::Boundary,
+            b: Loc::Exterior,
+        },
+        Cell {
+            a: Loc::Exterior,
+            b: Loc::Interior,
+        },
+        Cell {
+            a: Loc::Exterior,
+            b: Loc::Boundary,
+        },
+        Cell {
+            a: Loc::Exterior,
+            b: Loc::Exterior,
+        },
+    ];
+}
+
+/// The three cells in which A's part is the same, by B's part.
+#[derive(Clone, Copy, Debug, PartialEq, Eq)]
+struct Row {
+    interior: Dim,
+    boundary: Dim,
+    exterior: Dim,
+}
+
+/// For each cell a dimension: that of the points that are in both parts.
+#[derive(Clone, Copy, Debug, PartialEq, Eq)]
+pub struct Matrix {
+    interior: Row,
+    boundary: Row,
+    exterior: Row,
+}
+
+impl Row {
+    /// No point in any of the three cells.
+    const EMPTY: Row = Row {
+        interior: Dim::Empty,
+        boundary: Dim::Empty,
+        exterior: Dim::Empty,
+    };
+
+    fn get(&self, b: Loc) -> Dim
+        ensures { result ≡ in_row self.now b }
+    {
+        match b {
+            Loc::Interior => self.interior,
+            Loc::Boundary => self.boundary,
+            Loc::Exterior => self.exterior,
+        }
+    }
+
+    fn raise(&mut self, b: Loc, d: Dim)
+        ensures raised { in_row self.new b ≡ greater (in_row self.old b) d }
+        ensures others { (other : Loc) → other ≢ b → in_row self.new other ≡ in_row self.old other }
+    {
+        match b {
+            Loc::Interior => self.interior = self.interior.greater(d),
+            Loc::Boundary => self.boundary = self.boundary.greater(d),
+            Loc::Exterior => self.exterior = self.exterior.greater(d),
+        }
+    }
+}
+
+impl Matrix {
+    /// The matrix before any point is known: every cell is Empty, but the plane's remainder, outside
+    /// both figures, is always an area.
+    pub fn start() -> Matrix
+        ensures { (c : Cell) → dimension_at result c ≡ start_dimension c }
+    {
+        Matrix {
+            interior: Row::EMPTY,
+            boundary: Row::EMPTY,
+            exterior: Row {
+                exterior: Dim::Two,
+                ..Row::EMPTY
+            },
+        }
+    }
+
+    /// The dimension in a cell.
+    pub fn get(&self, c: Cell) -> Dim
+        ensures { result ≡ dimension_at self.now c }
+    {
+        match c.a {
+            Loc::Interior => self.interior.get(c.b),
+            Loc::Boundary => self.boundary.get(c.b),
+            Loc::Exterior => self.exterior.get(c.b),
+        }
+    }
+
+    /// Makes the cell's dimension the greater of its own and `d`. No other cell changes.
+    pub fn raise(&mut self, c: Cell, d: Dim)
+        ensures raised { dimension_at self.new c ≡ greater (dimension_at self.old c) d }
+        ensures others { (other : Cell) → other ≢ c → dimension_at self.new other ≡ dimension_at self.old other }
+    {
+        match c.a {
+            Loc::Interior => self.interior.raise(c.b, d),
+            Loc::Boundary => self.boundary.raise(c.b, d),
+            Loc::Exterior => self.exterior.raise(c.b, d),
+        }
+    }
+
+    /// The nine characters `F`, `0`, `1`, `2` in the order II IB IE BI BB BE EI EB EE.
+    pub fn text(&self) -> [u8; 9]
+        ensures { result ≡ matrix_text self.now }
+    {
+        [
+            self.interior.interior.character(),
+            self.interior.boundary.character(),
+            self.interior.exterior.character(),
+            self.boundary.interior.character(),
+            self.boundary.boundary.character(),
+            self.boundary.exterior.character(),
+            self.exterior.interior.character(),
+            self.exterior.boundary.character(),
+            self.exterior.exterior.character(),
+        ]
+    }
+}
+
+#[cfg(test)]
+mod tests;
