@@ -1,0 +1,117 @@
+-- The rules of the names, as tests of single cells.
+use Rattle.std.proofs.Common.{◌≡◌, ◌≤◌, ℕ, Bool, true, false, refl, arith}
+use Rattle.std.proofs.lemmas.Bool.Decides.{nat_tests}
+use Rattle.std.specs.Prelude.{◌&&◌, ◌||◌, not, nat_lt}
+
+-- Covers: one of four cells, and none of two
+pub four_and_two :
+    (a b c d e f : Bool) →
+    (a && (not e && (not f && true)))
+    || ((b && (not e && (not f && true)))
+    || ((c && (not e && (not f && true))) || ((d && (not e && (not f && true))) || false)))
+    ≡ (a || b || c || d) && not (e || f)
+four_and_two a b c d e f = grind arith
+
+-- CoveredBy: one of four cells, and none of two, in the order of its patterns
+pub two_and_four :
+    (a b c d e f : Bool) →
+    (a && (not e && (not f && true)))
+    || ((b && (not e && (not f && true)))
+    || ((not e && (c && (not f && true))) || ((not e && (d && (not f && true))) || false)))
+    ≡ (a || b || c || d) && not (e || f)
+two_and_four a b c d e f = grind arith
+
+-- Contains and Within: one cell, and none of two
+pub one_and_two : (a e f : Bool) → (a && (not e && (not f && true))) || false ≡ a && not (e || f)
+one_and_two a e f = grind arith
+
+-- Disjoint: none of four cells
+pub none_of_four :
+    (a b c d : Bool) → (not a && (not b && (not c && (not d && true)))) || false ≡ true && not (a || b || c || d)
+none_of_four a b c d = grind arith
+
+-- Intersects: one of four cells
+pub one_of_four :
+    (a b c d : Bool) → not ((not a && (not b && (not c && (not d && true)))) || false) ≡ a || b || c || d
+one_of_four a b c d = grind arith
+
+-- Touches: not the first of four cells, and one of the others
+pub not_first :
+    (a b c d : Bool) →
+    (not a && (b && true)) || ((not a && (c && true)) || ((not a && (d && true)) || false)) ≡ (b || c || d) && not a
+not_first a b c d = grind arith
+
+-- Crosses: two cells
+pub two_cells : (a b : Bool) → (a && (b && true)) || false ≡ a && b
+two_cells a b = grind arith
+
+-- Overlaps: three cells
+pub three_cells : (a b c : Bool) → (a && (b && (c && true))) || false ≡ a && b && c
+three_cells a b c = grind arith
+
+-- Equals: none of four cells, two by two
+pub none_of_two_and_two :
+    (a b c d : Bool) → (not a && (not b && (not c && (not d && true)))) || false ≡ true && not ((a || b) || (c || d))
+none_of_two_and_two a b c d = grind arith
+
+-- ContainsProperly: one cell, and none of four
+pub one_and_four :
+    (a b c d e : Bool) →
+    (a && (not b && (not c && (not d && (not e && true))))) || false ≡ a && not (b || c || (d || e))
+one_and_four a b c d e = grind arith
+
+-- what is above a bound stays above it
+pub lt-later : (n x y : ℕ) → x ≤ y → nat_lt n x ≡ true → nat_lt n y ≡ true
+lt-later n x y h k = grind (arith, nat_tests)
+
+-- one of two tests, where each stays true
+pub or-later : (a b c d : Bool) → (a ≡ true → c ≡ true) → (b ≡ true → d ≡ true) → a || b ≡ true → c || d ≡ true
+or-later a b true d f g h = refl
+or-later a b false true f g h = refl
+or-later true b false false f g h = f refl
+or-later false true false false f g h = g refl
+or-later false false false false f g h = h
+
+-- both of two tests, where each stays true
+pub and-later : (a b c d : Bool) → (a ≡ true → c ≡ true) → (b ≡ true → d ≡ true) → a && b ≡ true → c && d ≡ true
+and-later a b true true f g h = refl
+and-later true true true false f g h = g refl
+and-later true true false d f g h = f refl
+and-later true false c d f g h = cc
+and-later false b c d f g h = cc
+
+-- one of two tests refutes one of two others
+pub or-refutes : (a b c d : Bool) → (a ≡ true → c ≡ false) → (b ≡ true → d ≡ false) → a || b ≡ true → c && d ≡ false
+or-refutes a b false d f g h = refl
+or-refutes a b true false f g h = refl
+or-refutes true b true true f g h = f refl
+or-refutes false true true true f g h = g refl
+or-refutes false false true true f g h = cc
+
+-- two tests are false, and so two others are true
+pub or-false-passes : (a b c d : Bool) → (a ≡ false → c ≡ true) → (b ≡ false → d ≡ true) → a || b ≡ false → c && d ≡ true
+or-false-passes true b c d f g h = cc
+or-false-passes false true c d f g h = cc
+or-false-passes false false true true f g h = refl
+or-false-passes false false true false f g h = g refl
+or-false-passes false false false d f g h = f refl
+
+-- one of two tests is false, and so one of two others
+pub and-false-fails : (a b c d : Bool) → (a ≡ false → c ≡ false) → (b ≡ false → d ≡ false) → a && b ≡ false → c && d ≡ false
+and-false-fails a b false d f g h = refl
+and-false-fails a b true false f g h = refl
+and-false-fails false b true true f g h = f refl
+and-false-fails true false true true f g h = g refl
+and-false-fails true true true true f g h = cc
+
+-- the second of two tests is true, and is to be false
+pub and_not_false : (a b : Bool) → b ≡ true → a && not b ≡ false
+and_not_false true true h = refl
+and_not_false false true h = refl
+and_not_false a false h = cc
+
+-- a test that is passed and one that isn't
+pub and_not_true : (a b : Bool) → a ≡ true → b ≡ false → a && not b ≡ true
+and_not_true true false h k = refl
+and_not_true true true h k = cc
+and_not_true false b h k = cc

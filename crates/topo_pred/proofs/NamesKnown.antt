@@ -1,0 +1,310 @@
+-- What is known of each name.
+use Rattle.std.proofs.Common.{◌≡◌, true, false, Some, refl, arith}
+use Rattle.std.specs.Prelude.{[], ◌∷◌, codes, ◌&&◌, ◌||◌, nat_lt}
+use Rattle.std.specs.Bool.{then_some}
+use Rattle.im_matrix.specs.declared.Loc.TheVariants.{Interior, Boundary, Exterior}
+use Rattle.im_matrix.specs.declared.Dim.{Dim}
+use Rattle.im_matrix.specs.declared.Dim.TheVariants.{Empty, Zero, One, Two}
+use Rattle.im_matrix.specs.declared.Matrix.{Matrix}
+use Rattle.im_matrix.specs.declared.names.Name.TheVariants.{Intersects, Disjoint, Contains, Within, Covers, CoveredBy, Touches, Crosses, Overlaps, Equals, ContainsProperly}
+use Rattle.im_matrix.specs.Cells.{cell, dimension_at, rank, greater}
+use Rattle.im_matrix.specs.Parts.{has, figures_meet, a_leaves_b, b_leaves_a}
+use Rattle.im_matrix.specs.Names.{name_value, rule_value, one_of}
+use Rattle.topo_pred.specs.Later.{IsAtLeast, IsKnown}
+use Rattle.im_matrix.proofs.Dimensions.{greater-least, rank-most}
+use Rattle.topo_pred.proofs.Matrices.{is_points, is_lines, is_present-greater_zero, rank-greater_zero, rank-greater_one, rank-greater_one-two, itself, with_cells, with_cells-least}
+use Rattle.topo_pred.proofs.KnownTests.{known_value, rising-rank, IsRising, rising-has, rising-or, rising-and, refuted_by, confirmed_by}
+use Rattle.topo_pred.proofs.CellTests.{four_and_two, two_and_four, one_and_two, none_of_four, one_of_four, not_first, two_cells, three_cells, none_of_two_and_two, one_and_four}
+
+-- common points stay
+rising-meet : IsRising figures_meet
+rising-meet =
+    rising-or (λ m. has m Interior Interior || has m Interior Boundary || has m Boundary Interior) (λ m. has m Boundary Boundary)
+    (rising-or (λ m. has m Interior Interior || has m Interior Boundary) (λ m. has m Boundary Interior)
+    (rising-or (λ m. has m Interior Interior) (λ m. has m Interior Boundary) (rising-has Interior Interior) (rising-has Interior Boundary))
+    (rising-has Boundary Interior))
+    (rising-has Boundary Boundary)
+
+-- points of A outside B stay
+rising-a_leaves_b : IsRising a_leaves_b
+rising-a_leaves_b =
+    rising-or (λ m. has m Interior Exterior) (λ m. has m Boundary Exterior) (rising-has Interior Exterior) (rising-has Boundary Exterior)
+
+-- points of B outside A stay
+rising-b_leaves_a : IsRising b_leaves_a
+rising-b_leaves_a =
+    rising-or (λ m. has m Exterior Interior) (λ m. has m Exterior Boundary) (rising-has Exterior Interior) (rising-has Exterior Boundary)
+
+-- the matrix with an area common to both interiors
+abbrev interiors_met : Matrix → Matrix
+interiors_met m = with_cells m Two m.interior.boundary m.interior.exterior m.exterior.interior
+
+-- it is at least the matrix
+interiors_met-least : (m : Matrix) → IsAtLeast (interiors_met m) m
+interiors_met-least m =
+    with_cells-least m Two m.interior.boundary m.interior.exterior m.exterior.interior (rank-most m.interior.interior)
+    (omega arith) (omega arith) (omega arith)
+
+-- the matrix where A's interior meets B's boundary in an area
+abbrev boundary_met : Matrix → Matrix
+boundary_met m = with_cells m m.interior.interior Two m.interior.exterior m.exterior.interior
+
+-- it is at least the matrix
+boundary_met-least : (m : Matrix) → IsAtLeast (boundary_met m) m
+boundary_met-least m =
+    with_cells-least m m.interior.interior Two m.interior.exterior m.exterior.interior (omega arith)
+    (rank-most m.interior.boundary) (omega arith) (omega arith)
+
+-- Intersects is true for good once a point is common
+pub intersects-known : (a b : Dim) (m : Matrix) → IsKnown (name_value Intersects a b) m (then_some (figures_meet m) true)
+intersects-known a b m =
+    confirmed_by (name_value Intersects a b) figures_meet m
+    (λ x. one_of_four (has x Interior Interior) (has x Interior Boundary) (has x Boundary Interior) (has x Boundary Boundary))
+    rising-meet
+    refl
+
+-- Disjoint is false for good once a point is common
+pub disjoint-known : (a b : Dim) (m : Matrix) → IsKnown (name_value Disjoint a b) m (then_some (figures_meet m) false)
+disjoint-known a b m =
+    refuted_by (name_value Disjoint a b) (λ _. true) figures_meet m m
+    (λ x. none_of_four (has x Interior Interior) (has x Interior Boundary) (has x Boundary Interior) (has x Boundary Boundary))
+    rising-meet
+    refl
+    (itself m)
+    refl
+    refl
+
+-- Covers is false for good once B leaves A
+pub covers-known : (a b : Dim) (m : Matrix) → IsKnown (name_value Covers a b) m (then_some (b_leaves_a m) false)
+covers-known a b m =
+    refuted_by (name_value Covers a b) figures_meet b_leaves_a m (interiors_met m)
+    (λ x. four_and_two (has x Interior Interior) (has x Interior Boundary) (has x Boundary Interior) (has x Boundary Boundary) (has x Exterior Interior) (has x Exterior Boundary))
+    rising-b_leaves_a
+    refl
+    (interiors_met-least m)
+    refl
+    refl
+
+-- CoveredBy is false for good once A leaves B
+pub covered_by-known : (a b : Dim) (m : Matrix) → IsKnown (name_value CoveredBy a b) m (then_some (a_leaves_b m) false)
+covered_by-known a b m =
+    refuted_by (name_value CoveredBy a b) figures_meet a_leaves_b m (interiors_met m)
+    (λ x. two_and_four (has x Interior Interior) (has x Interior Boundary) (has x Boundary Interior) (has x Boundary Boundary) (has x Interior Exterior) (has x Boundary Exterior))
+    rising-a_leaves_b
+    refl
+    (interiors_met-least m)
+    refl
+    refl
+
+-- Contains is false for good once B leaves A
+pub contains-known : (a b : Dim) (m : Matrix) → IsKnown (name_value Contains a b) m (then_some (b_leaves_a m) false)
+contains-known a b m =
+    refuted_by (name_value Contains a b) (λ x. has x Interior Interior) b_leaves_a m (interiors_met m)
+    (λ x. one_and_two (has x Interior Interior) (has x Exterior Interior) (has x Exterior Boundary))
+    rising-b_leaves_a
+    refl
+    (interiors_met-least m)
+    refl
+    refl
+
+-- Within is false for good once A leaves B
+pub within-known : (a b : Dim) (m : Matrix) → IsKnown (name_value Within a b) m (then_some (a_leaves_b m) false)
+within-known a b m =
+    refuted_by (name_value Within a b) (λ x. has x Interior Interior) a_leaves_b m (interiors_met m)
+    (λ x. one_and_two (has x Interior Interior) (has x Interior Exterior) (has x Boundary Exterior))
+    rising-a_leaves_b
+    refl
+    (interiors_met-least m)
+    refl
+    refl
+
+-- Equals is false for good once a figure leaves the other
+pub equals-known : (a b : Dim) (m : Matrix) → IsKnown (name_value Equals a b) m (then_some (a_leaves_b m || b_leaves_a m) false)
+equals-known a b m =
+    refuted_by (name_value Equals a b) (λ _. true) (λ x. a_leaves_b x || b_leaves_a x) m m
+    (λ x. none_of_two_and_two (has x Interior Exterior) (has x Boundary Exterior) (has x Exterior Interior) (has x Exterior Boundary))
+    (rising-or a_leaves_b b_leaves_a rising-a_leaves_b rising-b_leaves_a)
+    refl
+    (itself m)
+    refl
+    refl
+
+-- ContainsProperly is false for good once B leaves A's interior
+pub contains_properly-known :
+    (a b : Dim) (m : Matrix) →
+    IsKnown (name_value ContainsProperly a b) m (then_some (has m Boundary Interior || has m Boundary Boundary || b_leaves_a m) false)
+contains_properly-known a b m =
+    refuted_by (name_value ContainsProperly a b) (λ x. has x Interior Interior)
+    (λ x. has x Boundary Interior || has x Boundary Boundary || b_leaves_a x) m (interiors_met m)
+    (λ x. one_and_four (has x Interior Interior) (has x Boundary Interior) (has x Boundary Boundary) (has x Exterior Interior) (has x Exterior Boundary))
+    (rising-or (λ x. has x Boundary Interior || has x Boundary Boundary) b_leaves_a
+    (rising-or (λ x. has x Boundary Interior) (λ x. has x Boundary Boundary) (rising-has Boundary Interior) (rising-has Boundary Boundary))
+    rising-b_leaves_a)
+    refl
+    (interiors_met-least m)
+    refl
+    refl
+
+-- Touches of two figures that aren't both points is false for good once the interiors meet
+touches_rule-known :
+    (m : Matrix) →
+    IsKnown (rule_value (one_of (codes "FT*******" ∷ codes "F**T*****" ∷ codes "F***T****" ∷ []))) m (then_some (has m Interior Interior) false)
+touches_rule-known m =
+    refuted_by (rule_value (one_of (codes "FT*******" ∷ codes "F**T*****" ∷ codes "F***T****" ∷ [])))
+    (λ x. has x Interior Boundary || has x Boundary Interior || has x Boundary Boundary) (λ x. has x Interior Interior) m (boundary_met m)
+    (λ x. not_first (has x Interior Interior) (has x Interior Boundary) (has x Boundary Interior) (has x Boundary Boundary))
+    (rising-has Interior Interior)
+    refl
+    (boundary_met-least m)
+    refl
+    refl
+
+pub touches-known :
+    (a b : Dim) (m : Matrix) → (a ≡ Zero → b ≡ Zero → ⊥) →
+    IsKnown (name_value Touches a b) m (then_some (has m Interior Interior) false)
+touches-known Zero Zero m h = absurd (h refl refl)
+touches-known a b m h = touches_rule-known m
+
+-- Touches of two points is false
+pub touches-points : (m : Matrix) → IsKnown (name_value Touches Zero Zero) m (Some false)
+touches-points m = known_value (name_value Touches Zero Zero) m false (λ later more. refl)
+
+-- Crosses of a lower figure is true for good once A's interior is in B's and outside B
+crosses_below-rule :
+    (m : Matrix) → IsKnown (rule_value (one_of (codes "T*T******" ∷ []))) m (then_some (has m Interior Interior && has m Interior Exterior) true)
+crosses_below-rule m =
+    confirmed_by (rule_value (one_of (codes "T*T******" ∷ []))) (λ x. has x Interior Interior && has x Interior Exterior) m
+    (λ x. two_cells (has x Interior Interior) (has x Interior Exterior))
+    (rising-and (λ x. has x Interior Interior) (λ x. has x Interior Exterior) (rising-has Interior Interior) (rising-has Interior Exterior))
+    refl
+
+pub crosses_below-known :
+    (a b : Dim) (m : Matrix) → nat_lt (rank a) (rank b) ≡ true →
+    IsKnown (name_value Crosses a b) m (then_some (has m Interior Interior && has m Interior Exterior) true)
+crosses_below-known Empty Zero m h = crosses_below-rule m
+crosses_below-known Empty One m h = crosses_below-rule m
+crosses_below-known Empty Two m h = crosses_below-rule m
+crosses_below-known Zero One m h = crosses_below-rule m
+crosses_below-known Zero Two m h = crosses_below-rule m
+crosses_below-known One Two m h = crosses_below-rule m
+crosses_below-known Empty Empty m h = cc
+crosses_below-known Zero Empty m h = cc
+crosses_below-known Zero Zero m h = cc
+crosses_below-known One Empty m h = cc
+crosses_below-known One Zero m h = cc
+crosses_below-known One One m h = cc
+crosses_below-known Two Empty m h = cc
+crosses_below-known Two Zero m h = cc
+crosses_below-known Two One m h = cc
+crosses_below-known Two Two m h = cc
+
+-- Crosses of a higher figure is true for good once B's interior is in A's and outside A
+crosses_above-rule :
+    (m : Matrix) → IsKnown (rule_value (one_of (codes "T*****T**" ∷ []))) m (then_some (has m Interior Interior && has m Exterior Interior) true)
+crosses_above-rule m =
+    confirmed_by (rule_value (one_of (codes "T*****T**" ∷ []))) (λ x. has x Interior Interior && has x Exterior Interior) m
+    (λ x. two_cells (has x Interior Interior) (has x Exterior Interior))
+    (rising-and (λ x. has x Interior Interior) (λ x. has x Exterior Interior) (rising-has Interior Interior) (rising-has Exterior Interior))
+    refl
+
+pub crosses_above-known :
+    (a b : Dim) (m : Matrix) → nat_lt (rank b) (rank a) ≡ true →
+    IsKnown (name_value Crosses a b) m (then_some (has m Interior Interior && has m Exterior Interior) true)
+crosses_above-known Zero Empty m h = crosses_above-rule m
+crosses_above-known One Empty m h = crosses_above-rule m
+crosses_above-known Two Empty m h = crosses_above-rule m
+crosses_above-known One Zero m h = crosses_above-rule m
+crosses_above-known Two Zero m h = crosses_above-rule m
+crosses_above-known Two One m h = crosses_above-rule m
+crosses_above-known Empty Empty m h = cc
+crosses_above-known Empty Zero m h = cc
+crosses_above-known Empty One m h = cc
+crosses_above-known Empty Two m h = cc
+crosses_above-known Zero Zero m h = cc
+crosses_above-known Zero One m h = cc
+crosses_above-known Zero Two m h = cc
+crosses_above-known One One m h = cc
+crosses_above-known One Two m h = cc
+crosses_above-known Two Two m h = cc
+
+-- Crosses of two figures of one dimension that aren't lines is false
+pub crosses_level-known :
+    (a b : Dim) (m : Matrix) → (a ≡ One → b ≡ One → ⊥) → nat_lt (rank a) (rank b) ≡ false → nat_lt (rank b) (rank a) ≡ false →
+    IsKnown (name_value Crosses a b) m (Some false)
+crosses_level-known Empty Empty m h k l = known_value (name_value Crosses Empty Empty) m false (λ later more. refl)
+crosses_level-known Zero Zero m h k l = known_value (name_value Crosses Zero Zero) m false (λ later more. refl)
+crosses_level-known One One m h k l = absurd (h refl refl)
+crosses_level-known Two Two m h k l = known_value (name_value Crosses Two Two) m false (λ later more. refl)
+crosses_level-known Empty Zero m h k l = cc
+crosses_level-known Empty One m h k l = cc
+crosses_level-known Empty Two m h k l = cc
+crosses_level-known Zero Empty m h k l = cc
+crosses_level-known Zero One m h k l = cc
+crosses_level-known Zero Two m h k l = cc
+crosses_level-known One Empty m h k l = cc
+crosses_level-known One Zero m h k l = cc
+crosses_level-known One Two m h k l = cc
+crosses_level-known Two Empty m h k l = cc
+crosses_level-known Two Zero m h k l = cc
+crosses_level-known Two One m h k l = cc
+
+-- Crosses of two lines is false for good once the interiors meet in more than points
+pub crosses_lines-known :
+    (m : Matrix) → IsKnown (name_value Crosses One One) m (then_some (nat_lt 1 (rank (dimension_at m (cell Interior Interior)))) false)
+crosses_lines-known m =
+    let d = m.interior.interior in
+    refuted_by (name_value Crosses One One) (λ x. has x Interior Interior) (λ x. nat_lt 1 (rank (dimension_at x (cell Interior Interior)))) m
+    (with_cells m (greater d Zero) m.interior.boundary m.interior.exterior m.exterior.interior)
+    (λ x. is_points (dimension_at x (cell Interior Interior)))
+    (rising-rank 1 Interior Interior)
+    refl
+    (with_cells-least m (greater d Zero) m.interior.boundary m.interior.exterior m.exterior.interior (greater-least d Zero) (omega arith) (omega arith) (omega arith))
+    (is_present-greater_zero d)
+    (rank-greater_zero d)
+
+-- Overlaps of two points or two areas is true for good once each interior is in the other in part
+overlaps_rule-known :
+    (m : Matrix) →
+    IsKnown (rule_value (one_of (codes "T*T***T**" ∷ []))) m (then_some (has m Interior Interior && has m Interior Exterior && has m Exterior Interior) true)
+overlaps_rule-known m =
+    confirmed_by (rule_value (one_of (codes "T*T***T**" ∷ []))) (λ x. has x Interior Interior && has x Interior Exterior && has x Exterior Interior) m
+    (λ x. three_cells (has x Interior Interior) (has x Interior Exterior) (has x Exterior Interior))
+    (rising-and (λ x. has x Interior Interior && has x Interior Exterior) (λ x. has x Exterior Interior)
+    (rising-and (λ x. has x Interior Interior) (λ x. has x Interior Exterior) (rising-has Interior Interior) (rising-has Interior Exterior))
+    (rising-has Exterior Interior))
+    refl
+
+pub overlaps_points-known :
+    (m : Matrix) →
+    IsKnown (name_value Overlaps Zero Zero) m (then_some (has m Interior Interior && has m Interior Exterior && has m Exterior Interior) true)
+overlaps_points-known m = overlaps_rule-known m
+
+pub overlaps_areas-known :
+    (m : Matrix) →
+    IsKnown (name_value Overlaps Two Two) m (then_some (has m Interior Interior && has m Interior Exterior && has m Exterior Interior) true)
+overlaps_areas-known m = overlaps_rule-known m
+
+-- Overlaps of two lines is false for good once the interiors meet in an area
+pub overlaps_lines-known :
+    (m : Matrix) → IsKnown (name_value Overlaps One One) m (then_some (nat_lt 2 (rank (dimension_at m (cell Interior Interior)))) false)
+overlaps_lines-known m =
+    let d = m.interior.interior in
+    refuted_by (name_value Overlaps One One)
+    (λ x. nat_lt 1 (rank (dimension_at x (cell Interior Interior))) && has x Interior Exterior && has x Exterior Interior)
+    (λ x. nat_lt 2 (rank (dimension_at x (cell Interior Interior)))) m
+    (with_cells m (greater d One) m.interior.boundary Two Two)
+    (λ x. is_lines (dimension_at x (cell Interior Interior)) (has x Interior Exterior) (has x Exterior Interior))
+    (rising-rank 2 Interior Interior)
+    refl
+    (with_cells-least m (greater d One) m.interior.boundary Two Two (greater-least d One) (omega arith) (rank-most m.interior.exterior) (rank-most m.exterior.interior))
+    (rank-greater_one d)
+    (rank-greater_one-two d)
+
+-- Overlaps of any other two figures is false
+pub overlaps_none-known :
+    (a b : Dim) (m : Matrix) → (a ≡ Zero → b ≡ Zero → ⊥) → (a ≡ One → b ≡ One → ⊥) → (a ≡ Two → b ≡ Two → ⊥) →
+    IsKnown (name_value Overlaps a b) m (Some false)
+overlaps_none-known Zero Zero m h k l = absurd (h refl refl)
+overlaps_none-known One One m h k l = absurd (k refl refl)
+overlaps_none-known Two Two m h k l = absurd (l refl refl)
+overlaps_none-known a b m h k l = known_value (name_value Overlaps a b) m false (λ later more. refl)
