@@ -1,0 +1,4 @@
+pub mod Crossings
+pub mod Means
+pub mod Overlaps
+pub mod Meetings

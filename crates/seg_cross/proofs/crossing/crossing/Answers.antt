@@ -1,0 +1,54 @@
+use Rattle.std.proofs.Common.{◌≡◌, ℤ, ◌*ℤ◌, refl, sym, ◌∙◌, subst₂}
+use Rattle.plane_exact.specs.Plane.{Point}
+use mir.Syntax.{w128}
+use Rattle.whole_algebra.proofs.Computed.{stored, fits}
+use Rattle.plane_exact.specs.NodePoints.{point_at}
+use Rattle.plane_exact.specs.Nodes.{IsFraction, IsAt}
+use Rattle.plane_exact.proofs.Sizes.{abscissa_size, height_size}
+use Rattle.seg_cross.proofs.Means.{weights, mean_of, IsFraction-mean}
+use Rattle.seg_cross.proofs.crossing.crossing.Goals as goal
+
+pub overflow_add-from : goal.overflow_add-from
+overflow_add-from c = fits w128 (weights _ _ c.args.first c.args.second c.from.ensures c.from-2.ensures c.requires.first_size c.requires.second_size) refl
+
+pub reduce-requires-clause-across : goal.reduce-requires-clause-across
+reduce-requires-clause-across c =
+    let f = c.args.first in
+    let s = c.args.second in
+    let seg = c.args.s in
+    let r = c.requires in
+    subst₂ IsFraction
+    (sym (mean_of _ f seg.a.x s seg.b.x c.mean.ensures.sum r.first_size (abscissa_size seg.a r.a) r.second_size (abscissa_size seg.b r.b)))
+    (sym (stored w128 (weights _ _ f s c.from.ensures c.from-2.ensures r.first_size r.second_size) refl).is)
+    (IsFraction-mean f s seg.a.x seg.b.x r.first r.second r.first_size r.second_size (abscissa_size seg.a r.a) (abscissa_size seg.b r.b) r.some)
+
+pub reduce-requires-clause-above : goal.reduce-requires-clause-above
+reduce-requires-clause-above c =
+    let f = c.args.first in
+    let s = c.args.second in
+    let seg = c.args.s in
+    let r = c.requires in
+    subst₂ IsFraction
+    (sym (mean_of _ f seg.a.y s seg.b.y c.mean-2.ensures.sum r.first_size (height_size seg.a r.a) r.second_size (height_size seg.b r.b)))
+    (sym (stored w128 (weights _ _ f s c.from.ensures c.from-2.ensures r.first_size r.second_size) refl).is)
+    (IsFraction-mean f s seg.a.y seg.b.y r.first r.second r.first_size r.second_size (height_size seg.a r.a) (height_size seg.b r.b) r.some)
+
+at_mean : (n : Point) (x y w x' y' w' : ℤ) → x ≡ x' → y ≡ y' → w ≡ w' → IsAt n x y w → IsAt n x' y' w'
+at_mean n x y w x' y' w' ex ey ew at = record {
+  across = (λ i. n.x *ℤ sym ew i) ∙ at.across ∙ (λ i. ex i *ℤ n.w);
+  above = (λ i. n.y *ℤ sym ew i) ∙ at.above ∙ (λ i. ey i *ℤ n.w);
+}
+
+pub returns : goal.returns
+returns c =
+    let f = c.args.first in
+    let s = c.args.second in
+    let seg = c.args.s in
+    let r = c.requires in
+    record {
+      mean = at_mean (point_at c.reduce.result) _ _ _ _ _ _
+          (mean_of _ f seg.a.x s seg.b.x c.mean.ensures.sum r.first_size (abscissa_size seg.a r.a) r.second_size (abscissa_size seg.b r.b))
+          (mean_of _ f seg.a.y s seg.b.y c.mean-2.ensures.sum r.first_size (height_size seg.a r.a) r.second_size (height_size seg.b r.b))
+          (stored w128 (weights _ _ f s c.from.ensures c.from-2.ensures r.first_size r.second_size) refl).is
+          c.reduce.ensures.same;
+    }
