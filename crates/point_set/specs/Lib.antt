@@ -1,0 +1,14 @@
+pub use Rattle.plane_exact.specs.Plane
+pub use Rattle.plane_exact.specs.Places
+pub use Rattle.im_matrix.specs.Cells
+pub mod Rings
+pub mod Lines
+pub mod Location
+pub mod Dimension
+pub mod Shape
+pub mod Validity
+pub mod Relation
+pub mod Edges
+pub mod Sectors
+pub mod Germ
+pub mod Sides

@@ -1,0 +1,57 @@
+-- The sectors between neighbouring directions, and a sector's middle.
+use Rattle.std.specs.Prelude.{◌≡◌, ℕ, ◌+◌, ◌%◌, ℤ, pos, ◌+ℤ◌, ◌-ℤ◌, ◌*ℤ◌, neg_ℤ, ◌<ℤ◌, ◌≤ℤ◌, ◌⊎◌, List, [], ◌∷◌, length}
+use Rattle.plane_exact.specs.declared.dir.Dir.{Dir}
+use Rattle.point_set.specs.Germ.{Direction}
+use Rattle.point_set.specs.Validity.{IsAtPlace}
+
+-- A direction of the code, as a direction.
+abbrev pub direction_of : Dir → Direction
+direction_of d = record { x = d.dx; y = d.dy; moves = d.way.turned }
+
+-- The cross product of two directions: positive where v is to the left of u, less than half a turn.
+unfoldable pub bend_of : Direction → Direction → ℤ
+bend_of u v = (u.x *ℤ v.y) -ℤ (u.y *ℤ v.x)
+
+-- Two directions point the same way: a positive multiple of one is a positive multiple of the other.
+pub record PointSameWay (u v : Direction) : Type 0 where
+  pub m : ℤ
+  pub n : ℤ
+  pub some : pos 0 <ℤ m
+  pub other : pos 0 <ℤ n
+  pub across : m *ℤ u.x ≡ n *ℤ v.x
+  pub above : m *ℤ u.y ≡ n *ℤ v.y
+
+-- d lies strictly between r and s, counter-clockwise after r and before s.
+--   Where s is to the left of r, d is to the left of r and s is to the left of d.
+--   Where s is to the right of r, d is anywhere but from s to r: to the left of r, or s is to the left of d.
+--   Where s is opposite to r, d is to the left of r.
+--   Where s points the same way as r, the sector is the whole turn, and d points another way.
+pub record IsStrictlyWithin (r s d : Direction) : Type 0 where
+  pub left : pos 0 <ℤ bend_of r s → (pos 0 <ℤ bend_of r d) × (pos 0 <ℤ bend_of d s)
+  pub right : bend_of r s <ℤ pos 0 → (pos 0 <ℤ bend_of r d) ⊎ (pos 0 <ℤ bend_of d s)
+  pub opposite : bend_of r s ≡ pos 0 → ¬ PointSameWay r s → pos 0 <ℤ bend_of r d
+  pub same : PointSameWay r s → ¬ PointSameWay r d
+
+-- The middle of the sector from r to s: the sum of the two where s is to the left of r, else r turned left by a quarter.
+pub record IsMiddleBetween (r s m : Direction) : Type 0 where
+  pub sum : pos 0 <ℤ bend_of r s → (m.x ≡ r.x +ℤ s.x) × (m.y ≡ r.y +ℤ s.y)
+  pub quarter : bend_of r s ≤ℤ pos 0 → (m.x ≡ neg_ℤ r.y) × (m.y ≡ r.x)
+
+-- Something holds of the direction at place i of a list in order of angles, and of its neighbour counter-clockwise: the next
+-- in the list, and after the last one the first.
+pub record OfNeighbours (Holds : Direction → Direction → Type 0) (rays : List Dir) (i : ℕ) : Type 0 where
+  pub ray : Dir
+  pub next : Dir
+  pub ray_is : IsAtPlace rays i ray
+  pub next_is : IsAtPlace rays ((i + 1) % length rays) next
+  pub holds : Holds (direction_of ray) (direction_of next)
+
+-- A direction lies strictly within sector i of the given directions; with none there is one sector of all directions.
+abbrev pub IsInSector : List Dir → ℕ → Direction → Type 0
+IsInSector [] i d = Unit {0}
+IsInSector (ray ∷ rays) i d = OfNeighbours (λ r s. IsStrictlyWithin r s d) (ray ∷ rays) i
+
+-- The middle of sector i; with no direction it is the positive x direction.
+abbrev pub IsMiddle : List Dir → ℕ → Direction → Type 0
+IsMiddle [] i m = (m.x ≡ pos 1) × (m.y ≡ pos 0)
+IsMiddle (ray ∷ rays) i m = OfNeighbours (λ r s. IsMiddleBetween r s m) (ray ∷ rays) i

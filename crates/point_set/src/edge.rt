@@ -1,0 +1,38 @@
+use plane_exact::{ItemList, Seg};
+
+/// For an edge of a ring, the side on which the inside of its area lies; an edge of a line has none.
+#[derive(Clone, Copy, Debug, PartialEq, Eq)]
+pub enum Hand {
+    /// An edge of a line.
+    Line,
+    /// The inside lies on the left of the way from the edge's start to its end.
+    Left,
+    /// The inside lies on the right.
+    Right,
+}
+
+/// The line or the ring to which an edge belongs. Places count from 0.
+#[derive(Clone, Copy, Debug, PartialEq, Eq)]
+pub enum Owner {
+    /// The line at a place.
+    Line(u32),
+    /// The area at a place, and the place of its ring: 0 is the shell, and the holes follow.
+    Ring(u32, u32),
+}
+
+/// An edge of a figure.
+#[derive(Clone, Copy, Debug, PartialEq, Eq)]
+pub struct Edge {
+    pub seg: Seg,
+    pub owner: Owner,
+    pub hand: Hand,
+}
+
+/// The place of an edge in the list of a figure's edges, counted from 0.
+#[derive(Clone, Copy, Debug, PartialEq, Eq)]
+pub struct EdgeId {
+    pub place: u32,
+}
+
+/// Edges in order.
+pub type EdgeRows = ItemList<Edge>;

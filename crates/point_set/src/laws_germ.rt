@@ -1,0 +1,25 @@
+//! Laws of germs: each is a function that does nothing, and its contract is the law.
+
+ghost use Rattle.std.specs.Prelude.{◌≡◌, ℕ, true};
+ghost use Rattle.im_matrix.specs.declared.Loc.{Loc};
+ghost use Rattle.plane_exact.specs.Plane.{Point};
+ghost use Rattle.plane_exact.specs.Places.{point_of};
+ghost use Rattle.plane_exact.specs.declared.point.Seg.{Seg};
+ghost use Rattle.point_set.specs.declared.figure.Area.{Area};
+ghost use Rattle.point_set.specs.Germ.{Direction, IsGerm, IsInCone};
+ghost use Rattle.point_set.specs.Location.{edges_of_rings, rings_of};
+ghost use Rattle.point_set.specs.Rings.{is_on_edge};
+ghost use Rattle.point_set.specs.Shape.{IsAreaShaped};
+ghost use Rattle.point_set.specs.Validity.{IsAtPlace};
+
+/// Near any point, the location in an area settles along every direction, to one location.
+pub fn law_germ_is_one_location()
+    ensures some { (area : Area) → IsAreaShaped area → (v : Point) (d : Direction) → (germ : Loc) × IsGerm area v d germ }
+    ensures one { (area : Area) (v : Point) (d : Direction) (g h : Loc) → IsGerm area v d g → IsGerm area v d h → g ≡ h }
+{}
+
+/// The germ of an area at v is the same along two directions that aren't opposite and have no edge of the area between
+/// them: none that v is on has an end that lies from v between the two, or along one of them.
+pub fn law_germ_is_the_same_between_edges()
+    ensures same { (area : Area) → IsAreaShaped area → (v : Point) (d e : Direction) → ¬ IsInCone v d e v → ((place : ℕ) (f : Seg) → IsAtPlace (edges_of_rings (rings_of area)) place f → is_on_edge v f ≡ true → (¬ IsInCone v d e (point_of f.a)) × (¬ IsInCone v d e (point_of f.b))) → (g h : Loc) → IsGerm area v d g → IsGerm area v e h → g ≡ h }
+{}
