@@ -1,0 +1,2 @@
+pub use Rattle.point_set.specs.Sides
+pub mod Middles
