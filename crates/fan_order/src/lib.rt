@@ -1,0 +1,13 @@
+//! The edges round a node: rays in the order of their angles, and the sectors between them.
+#![tactic(auto)]
+
+mod fan;
+mod lowest;
+mod middle;
+mod ray;
+mod section;
+#[cfg(test)]
+mod tests;
+
+pub use fan::Fan;
+pub use section::{Section, SectionList};

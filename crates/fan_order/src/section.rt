@@ -1,0 +1,31 @@
+use im_matrix::Which;
+use plane_exact::{Dir, ItemList};
+use point_set::Hand;
+
+/// An edge, seen from a node that it holds.
+#[derive(Clone, Copy, Debug, PartialEq, Eq)]
+pub struct Section {
+    /// The direction away from the node.
+    pub dir: Dir,
+    /// The side of the direction on which the inside of the edge's area lies, or `Line` for an edge of a line.
+    pub hand: Hand,
+    /// The figure to which the edge belongs.
+    pub which: Which,
+    /// The place of the edge's area in its figure; None exactly for an edge of a line.
+    pub area: Option<u32>,
+}
+
+/// An edge of a line of the first figure, along the positive x direction.
+impl Default for Section {
+    fn default() -> Section {
+        Section {
+            dir: Dir { dx: 1, dy: 0 },
+            hand: Hand::Line,
+            which: Which::A,
+            area: None,
+        }
+    }
+}
+
+/// Sections in order.
+pub type SectionList = ItemList<Section>;

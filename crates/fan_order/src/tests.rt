@@ -1,0 +1,105 @@
+ghost use Rattle.std.specs.Prelude.{◌≡◌, ◌↔◌, IsTrue, All};
+ghost use Rattle.plane_exact.specs.Directions.{IsWay};
+ghost use Rattle.fan_order.specs.Rays.{IsShort};
+
+use super::{Fan, Section, SectionList};
+use im_matrix::Which;
+use plane_exact::Dir;
+use point_set::Hand;
+use std::alloc::Global;
+use std::process::Abort;
+use std::test::Fail;
+
+fn toward(dx: i64, dy: i64) -> Section
+    requires way { IsWay dx dy }
+    ensures dir_x { result.dir.dx ≡ dx }
+    ensures dir_y { result.dir.dy ≡ dy }
+{
+    Section {
+        dir: Dir { dx, dy },
+        hand: Hand::Line,
+        which: Which::B,
+        area: None,
+    }
+}
+
+/// Whether the directions of all sections are short enough for a fan.
+fn are_short(sections: &SectionList) -> bool
+    ensures short { IsTrue result → All (λ s. IsShort s.dir) sections.now }
+{
+    sections.as_slice().iter().all(|s| is_short(s.dir))
+}
+
+fn is_short(d: Dir) -> bool
+    ensures short { IsTrue result ↔ IsShort d }
+{
+    d.dx.unsigned_abs() <= 2_097_150 && d.dy.unsigned_abs() <= 2_097_150
+}
+
+/// The rays of a fan, each with the middle of the sector after it.
+fn assert_fan(
+    rt: &impl Abort,
+    sections: SectionList,
+    alloc: Global,
+    rays: &[(i64, i64)],
+    middles: &[(i64, i64)],
+) -> Result<(), Fail> {
+    assert!(rt; are_short(&sections));
+    let fan = Fan::gather(alloc, &sections).ok().ok_or("no memory")?;
+    assert_eq!(rt; fan.rays(), rays.len());
+    assert_eq!(rt; fan.sectors(), middles.len());
+    assert_eq!(rt; fan.sections().len(), sections.len());
+    for (i, (dx, dy)) in rays.iter().enumerate() {
+        assert!(rt; i < fan.rays());
+        let ray = fan.ray(i);
+        assert_eq!(rt; (ray.dx, ray.dy), (*dx, *dy), "ray {i}");
+    }
+    for (i, (dx, dy)) in middles.iter().enumerate() {
+        assert!(rt; i < fan.sectors());
+        let middle = fan.middle(i);
+        assert_eq!(rt; (middle.dx, middle.dy), (*dx, *dy), "middle {i}");
+    }
+    Ok(())
+}
+
+#[test]
+fn fans_have_their_rays_and_middles(rt: HostRuntime) -> Result<(), Fail> {
+    let mut two = SectionList::new(rt.alloc());
+    two.push(toward(1, 0))?;
+    two.push(toward(0, 1))?;
+    two.push(toward(1, 0))?;
+    assert_fan(&rt, two, rt.alloc(), &[(1, 0), (0, 1)], &[(1, 1), (-1, 0)])?;
+    let none = SectionList::new(rt.alloc());
+    assert_fan(&rt, none, rt.alloc(), &[], &[(1, 0)])?;
+    let mut one = SectionList::new(rt.alloc());
+    one.push(toward(-4, -6))?;
+    assert_fan(&rt, one, rt.alloc(), &[(-2, -3)], &[(3, -2)])?;
+    let mut opposite = SectionList::new(rt.alloc());
+    opposite.push(toward(-3, 0))?;
+    opposite.push(toward(7, 0))?;
+    assert_fan(
+        &rt,
+        opposite,
+        rt.alloc(),
+        &[(1, 0), (-1, 0)],
+        &[(0, 1), (0, -1)],
+    )
+}
+
+#[test]
+fn a_fan_of_many_sections(rt: HostRuntime) -> Result<(), Fail> {
+    let mut sections = SectionList::new(rt.alloc());
+    for _ in 0..3 {
+        sections.push(toward(0, -2))?;
+        sections.push(toward(2, -2))?;
+        sections.push(toward(-1, 1))?;
+        sections.push(toward(3, 1))?;
+    }
+    assert_fan(
+        &rt,
+        sections,
+        rt.alloc(),
+        &[(3, 1), (-1, 1), (0, -1), (1, -1)],
+        &[(2, 2), (-1, 0), (1, -2), (4, 0)],
+    )
+}
