@@ -1,0 +1,9 @@
+pub mod Calls
+pub mod Cursors
+pub mod Faults
+pub mod FileInputs
+pub mod Known
+pub mod MemInputs
+pub mod MemSink
+pub mod Pairs
+pub mod Sides

@@ -1,0 +1,26 @@
+-- A sink over memory, as its callers see it.
+use Rattle.std.specs.Prelude.{◌≡◌, ℕ, ◌-◌, min, List, ◌++◌, length, take, ◌⊎◌}
+use Rattle.geosop_io.specs.Calls.{IsNextFailing, after_call, after_fault}
+use Rattle.geosop_io.specs.declared.calls.Calls.{Calls}
+
+-- The bytes taken, how many there is room for in all, and the writes.
+pub record MemTaken : Type 0 where
+  pub taken : List ℕ
+  pub room : ℕ
+  pub calls : Calls
+
+-- A write fails: by its number, or because no room is left.
+abbrev pub WriteFails : MemTaken → Type 0
+WriteFails sink = IsNextFailing sink.calls ⊎ (sink.room ≡ length sink.taken)
+
+-- How many bytes of a piece there is room for.
+abbrev pub fitting : MemTaken → List ℕ → ℕ
+fitting sink piece = min (length piece) (sink.room - length sink.taken)
+
+-- The sink after it took the first bytes of a piece.
+abbrev pub after_write : MemTaken → List ℕ → ℕ → MemTaken
+after_write sink piece count = record sink { taken = sink.taken ++ take count piece; calls = after_call sink.calls }
+
+-- The sink after a write failed.
+abbrev pub after_failed_write : MemTaken → MemTaken
+after_failed_write sink = record sink { calls = after_fault sink.calls }

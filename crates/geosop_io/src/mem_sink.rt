@@ -1,0 +1,83 @@
+ghost use Rattle.std.specs.Prelude.{◌≡◌, ◌<◌, ◌≤◌, ◌^◌, List, [], length, Some, IfOk, OnErr, IsErr, ◌↔◌};
+ghost use Rattle.geosop_io.specs.MemSink.{MemTaken, WriteFails, fitting, after_write, after_failed_write};
+
+use crate::calls::Calls;
+use crate::sink::{Failed, Sink};
+use plane_exact::{NoMemory, PlaceList};
+use std::alloc::Global;
+use std::marker::Model;
+
+/// A sink that keeps what it takes in memory, and fails where it is told to.
+#[derive(Debug, Drop)]
+pub struct MemSink {
+    bytes: Vec<u8>,
+    room: usize,
+    calls: Calls,
+}
+
+impl Model for MemSink {
+    ghost use Rattle.std.specs.Prelude.{◌<◌, ◌≤◌, ◌^◌, length, vec_capacity};
+    ghost use Rattle.geosop_io.specs.MemSink.{MemTaken};
+
+    ghost Value = { MemTaken };
+
+    ghost view = { λ s. record { taken = s.bytes.items; room = s.room; calls = s.calls } };
+
+    ghost invariant = { λ s. (length s.bytes.items ≤ s.room) × (s.room ≤ vec_capacity s.bytes) × (s.calls.faults < 2 ^ 64) };
+}
+
+impl MemSink {
+    /// An empty sink with room for so many bytes, whose writes with these numbers fail. It takes
+    /// the memory for all of its room.
+    ///
+    /// # Errors
+    /// `NoMemory`.
+    pub fn new(alloc: Global, room: usize, fails: PlaceList) -> Result<MemSink, NoMemory>
+        ensures empty { IfOk result (λ sink. sink ≡ record {
+          taken = [];
+          room = room;
+          calls = record { fails = fails; made = 0; faults = 0 };
+        }) }
+    {
+        let bytes = Vec::with_capacity(alloc, room)?;
+        Ok(MemSink {
+            bytes,
+            room,
+            calls: Calls::new(fails),
+        })
+    }
+
+    /// The bytes taken so far.
+    pub fn bytes(&self) -> &[u8]
+        ensures bytes { result.now ≡ self.now.taken }
+    {
+        self.bytes.as_slice()
+    }
+}
+
+impl Sink for MemSink {
+    ghost taken = { λ s. Some s.taken };
+
+    ghost faults = { λ s. s.calls.faults };
+
+    /// Takes as much of the piece as there is room for. It fails by its number, and where no room
+    /// is left.
+    fn write(&mut self, piece: &[u8]) -> Result<usize, Failed>
+        requires { 0 < length piece.now }
+        ensures failed { IsErr result ↔ WriteFails self.old }
+        ensures count { IfOk result (λ count. count ≡ fitting self.old piece.now) }
+        ensures after { IfOk result (λ count. self.new ≡ after_write self.old piece.now count) }
+        ensures after_failed { OnErr result (self.new ≡ after_failed_write self.old) }
+
+        ensures some { IfOk result (λ count. 0 < count) }
+        ensures rising { self.old.calls.faults ≤ self.new.calls.faults }
+        ensures ends { self.new.calls.faults < 2 ^ 64 }
+    {
+        let is_failing = self.calls.next();
+        let count = piece.len().min(self.room - self.bytes.len());
+        if is_failing || count == 0 || self.bytes.extend_from_slice(&piece[..count]).is_err() {
+            return Err(self.calls.fault());
+        }
+        Ok(count)
+    }
+}
