@@ -1,0 +1,152 @@
+-- A text has one answer: white space alone, one reading, or one first fault.
+use Rattle.std.proofs.Common.{◌≡◌, ℕ, suc, ◌+◌, Bool, true, false, ◌&&◌, Result, Err, List, [], ◌∷◌, ◌++◌, ◌⊎◌, inl, inr, length, drop, refl, sym, ap, subst, ◌∙◌, arith, length-drop}
+use Rattle.std.specs.List.{list_all, prefix_len}
+use Rattle.std.proofs.lemmas.Bool.{false≢true}
+use Rattle.std.proofs.lemmas.List.{append-nil, drop_all}
+use Rattle.std.proofs.Math.Numerals.{one-add}
+use Rattle.point_set.specs.declared.figure.Figure.{Figure}
+use Rattle.wkt_text.specs.Bytes.{is_white}
+use Rattle.wkt_text.specs.declared.word.TypeWord.{TypeWord}
+use Rattle.wkt_text.specs.declared.word.TypeWord.TheVariants as type
+use Rattle.wkt_text.specs.declared.word.Tag.{Tag}
+use Rattle.wkt_text.specs.declared.token.Token.{Token}
+use Rattle.wkt_text.specs.declared.token.Token.TheVariants as token
+use Rattle.wkt_text.specs.declared.control.Role.{Role}
+use Rattle.wkt_text.specs.declared.control.Role.TheVariants.{Head, Mark}
+use Rattle.wkt_text.specs.declared.control.Control.{Control}
+use Rattle.wkt_text.specs.declared.control.WktKind.{WktKind}
+use Rattle.wkt_text.specs.declared.build.Build.{Build}
+use Rattle.wkt_text.specs.declared.read.Parsed.{Parsed}
+use Rattle.wkt_text.specs.declared.read.WktFault.{WktFault}
+use Rattle.wkt_text.specs.declared.read.WktFault.TheVariants as fault
+use Rattle.wkt_text.specs.Tokens.{token_in, lexeme_at}
+use Rattle.wkt_text.specs.Rules.{act}
+use Rattle.wkt_text.specs.Grammar.{depth_role, Slot, Writing, joined, apart, Geometry, simple, empty_collection, collection, type_of_simple, simple_then, gap_then, slot, geometry_then, geometries_then, head_then, spelling}
+use Rattle.wkt_text.specs.Faults.{Stands, tokens_of, Reads, IsRight, IsOnlyWhite, HasKind, breaks, unknown_type, ragged, syntax, FirstFault}
+use Rattle.wkt_text.specs.Results.{IsFirstFault, IsReadAs, IsFaultAt}
+use Rattle.wkt_text.proofs.Parses.{start, Run}
+use Rattle.wkt_text.proofs.Spells.{spelled_run}
+use Rattle.wkt_text.proofs.Courses.{goes_split, some_same}
+use Rattle.wkt_text.proofs.FirstFaults.{Taken, continues_taken, unknown_not_ragged}
+use Rattle.wkt_text.proofs.Progress.{stands_compare, one_reading, right_front}
+
+and_parts : (a b : Bool) → (a && b) ≡ true → (a ≡ true) × (b ≡ true)
+and_parts true b h = (refl, h)
+and_parts false b h = absurd (false≢true h)
+
+-- Where all pass, the front that passes is the whole list.
+pub prefix_len-all : (p : ℕ → Bool) (xs : List ℕ) → list_all p xs ≡ true → prefix_len p xs ≡ length xs
+prefix_len-all p [] h = refl
+prefix_len-all p (x ∷ xs) h =
+    let (first, rest) = and_parts (p x) (list_all p xs) h in
+    rw first (one-add (prefix_len p xs) ∙ ap suc (prefix_len-all p xs rest))
+
+white_end : (scale : ℕ) (bytes : List ℕ) (from : ℕ) → IsOnlyWhite bytes from → (lexeme_at scale bytes from).token ≡ token.End
+unfolding lexeme_at
+white_end scale bytes from white =
+    let e = prefix_len-all is_white (drop from bytes) white in
+    ap (λ u. (token_in scale u).0) (drop_all (from + prefix_len is_white (drop from bytes)) bytes (omega (arith, e, length-drop from bytes)))
+
+head_first : (role : Role) (kind : TypeWord) (w : Writing) (rest : List Slot) → (t : Tag) × (more : List Token) × (tokens_of (head_then role kind w rest) ≡ token.Type kind t ∷ more)
+head_first role kind (joined t) rest = (t, _, refl)
+head_first role kind (apart t) rest = (_, _, refl)
+
+-- The text of a geometry begins with a type word.
+spelling_first : (g : Geometry) → (kind : TypeWord) × (t : Tag) × (more : List Token) × (tokens_of (spelling g) ≡ token.Type kind t ∷ more)
+spelling_first (simple w b) = let (t, more, e) = head_first Head (type_of_simple b) w (simple_then b []) in (type_of_simple b, t, more, e)
+spelling_first (empty_collection w) = let (t, more, e) = head_first (depth_role 0) type.GeometryCollection w (gap_then []) in (type.GeometryCollection, t, more, e)
+spelling_first (collection w g gs) =
+    let (t, more, e) = head_first (depth_role 0) type.GeometryCollection w (slot token.Open Mark ∷ geometry_then g 1 (geometries_then gs 1 (slot token.Close Mark ∷ []))) in
+    (type.GeometryCollection, t, more, e)
+
+-- Where only white space follows, nothing is read.
+pub white_unread : (scale : ℕ) (bytes : List ℕ) (from : ℕ) (figure : Figure) (last : ℕ) → IsOnlyWhite bytes from → Reads scale bytes from figure last → ⊥
+white_unread scale bytes from figure last white r =
+    let (kind, t, more, e) = spelling_first r.geometry in
+    first_not_end kind t more (subst (λ u. Stands scale bytes from u last) e r.stands)
+  where
+    apart_tokens : (kind : TypeWord) (t : Tag) → ◌≡◌ {A = Token} token.End (token.Type kind t) → ⊥
+    apart_tokens kind t e = cc
+
+    first_not_end : (kind : TypeWord) (t : Tag) (more : List Token) → Stands scale bytes from (token.Type kind t ∷ more) last → ⊥
+    first_not_end kind t more (e, h) = apart_tokens kind t (sym (white_end scale bytes from white) ∙ e)
+
+-- What was read is the one reading.
+pub read_as : (scale : ℕ) (bytes : List ℕ) (from : ℕ) (p : Parsed) (figure : Figure) (last : ℕ) → Reads scale bytes from p.figure p.«end» →
+    Reads scale bytes from figure last → (p.figure ≡ figure) × (p.«end» ≡ last)
+read_as scale bytes from p figure last r s = one_reading scale bytes from p.figure figure p.«end» last r s
+
+-- Where a fault was found, nothing is read, unless memory was wanting.
+pub fault_read_as : (scale : ℕ) (bytes : List ℕ) (from : ℕ) (e : WktFault) (figure : Figure) (last : ℕ) → IsFirstFault e scale bytes from →
+    Reads scale bytes from figure last → IsReadAs (Err e) figure last
+fault_read_as scale bytes from (fault.Bad kind place) figure last f r = f.unread figure last r
+fault_read_as scale bytes from fault.NoMemory figure last f r = tt
+
+-- ---- one first fault
+
+-- The tokens before a first fault go no further than those before another.
+fault_ends : (ts more us : List Token) (t : Token) → (IsRight (ts ++ t ∷ []) → ⊥) → IsRight us → (u : Token) → u ≡ t → us ≡ ts ++ u ∷ more → ⊥
+fault_ends ts more us t wrong right u same e =
+    wrong (subst (λ v. IsRight (ts ++ v ∷ [])) same (right_front ts more u (subst IsRight e right)))
+
+right_whole : (ts : List Token) → IsRight ts → (c : Control) × (b : Build) × Taken ts c b
+right_whole ts r =
+    let (c, g, h) = goes_split r.front r.rest start (subst (λ u. Run start u) r.spelled (spelled_run r.geometry)) in
+    (c, r.build, record { front = r.front; tokens = r.tokens; goes = g; kept = r.kept })
+
+err_same : {j k : WktKind} → ◌≡◌ {A = Result Build WktKind} (Err j) (Err k) → j ≡ k
+err_same e = cc
+
+-- A token after right ones has one kind.
+pub one_kind : (ts : List Token) (t : Token) (j k : WktKind) → IsRight ts → HasKind ts t j → HasKind ts t k → j ≡ k
+one_kind ts t j k right (breaks b r n e) (breaks b' r' n' e') =
+    let (c, d, taken) = right_whole ts right in
+    let (c₁, e₁, s₁) = continues_taken ts c d b t r taken n in
+    let (c₂, e₂, s₂) = continues_taken ts c d b' t r' taken n' in
+    let (roles, controls) = some_same {a = r} {b = r'} {c = c₁} {d = c₂} (sym e₁ ∙ e₂) in
+    err_same (sym e ∙ ap (λ u. act u r t) (sym s₁ ∙ s₂) ∙ ap (λ u. act b' u t) roles ∙ e')
+one_kind ts t j k right (breaks b r n e) (unknown_type f u) = absurd (f b r n)
+one_kind ts t j k right (breaks b r n e) (ragged f u) = absurd (f b r n)
+one_kind ts t j k right (breaks b r n e) (syntax f u v) = absurd (f b r n)
+one_kind ts t j k right (unknown_type f u) (breaks b r n e) = absurd (f b r n)
+one_kind ts t j k right (ragged f u) (breaks b r n e) = absurd (f b r n)
+one_kind ts t j k right (syntax f u v) (breaks b r n e) = absurd (f b r n)
+one_kind ts t j k right (unknown_type f u) (unknown_type g v) = refl
+one_kind ts t j k right (unknown_type f u) (ragged g v) = let (c, d, taken) = right_whole ts right in absurd (unknown_not_ragged ts c d t taken u v)
+one_kind ts t j k right (unknown_type f u) (syntax g v w) = absurd (v u)
+one_kind ts t j k right (ragged f u) (unknown_type g v) = let (c, d, taken) = right_whole ts right in absurd (unknown_not_ragged ts c d t taken v u)
+one_kind ts t j k right (ragged f u) (ragged g v) = refl
+one_kind ts t j k right (ragged f u) (syntax g v w) = absurd (w u)
+one_kind ts t j k right (syntax f u v) (unknown_type g w) = absurd (u w)
+one_kind ts t j k right (syntax f u v) (ragged g w) = absurd (v w)
+one_kind ts t j k right (syntax f u v) (syntax g w x) = refl
+
+pub one_fault : (scale : ℕ) (bytes : List ℕ) (from : ℕ) (j k : WktKind) (p q : ℕ) → FirstFault scale bytes from j p → FirstFault scale bytes from k q → (j ≡ k) × (p ≡ q)
+one_fault scale bytes from j k p q f g = go (stands_compare scale bytes f.before g.before from f.after g.after f.stands g.stands)
+  where
+    same : f.before ≡ g.before → f.after ≡ g.after → (j ≡ k) × (p ≡ q)
+    same e a =
+        let t : (lexeme_at scale bytes f.after).token ≡ (lexeme_at scale bytes g.after).token = ap (λ u. (lexeme_at scale bytes u).token) a in (
+          one_kind g.before _ j k g.right
+              (subst (λ u. HasKind u (lexeme_at scale bytes g.after).token j) e (subst (λ u. HasKind f.before u j) t f.kind_is)) g.kind_is,
+          f.place_is ∙ ap (λ u. (lexeme_at scale bytes u).start) a ∙ sym g.place_is,
+        )
+
+    left : (more : List Token) → g.before ≡ f.before ++ more → Stands scale bytes f.after more g.after → (j ≡ k) × (p ≡ q)
+    left [] e h = same (sym (e ∙ append-nil f.before)) h
+    left (u ∷ more) e (first, h) = absurd (fault_ends f.before more g.before _ f.wrong g.right u (sym first) e)
+
+    right_side : (more : List Token) → f.before ≡ g.before ++ more → Stands scale bytes g.after more f.after → (j ≡ k) × (p ≡ q)
+    right_side [] e h = same (e ∙ append-nil g.before) (sym h)
+    right_side (u ∷ more) e (first, h) = absurd (fault_ends g.before more f.before _ g.wrong f.right u (sym first) e)
+
+    go : ((more : List Token) × (g.before ≡ f.before ++ more) × Stands scale bytes f.after more g.after)
+        ⊎ ((more : List Token) × (f.before ≡ g.before ++ more) × Stands scale bytes g.after more f.after) → (j ≡ k) × (p ≡ q)
+    go (inl (more, e, h)) = left more e h
+    go (inr (more, e, h)) = right_side more e h
+
+-- Where a fault was found, it is the first fault, unless memory was wanting.
+pub fault_as : (scale : ℕ) (bytes : List ℕ) (from : ℕ) (e : WktFault) (kind : WktKind) (place : ℕ) → IsFirstFault e scale bytes from →
+    FirstFault scale bytes from kind place → IsFaultAt (Err e) kind place
+fault_as scale bytes from (fault.Bad j p) kind place f g = one_fault scale bytes from j kind p place f g
+fault_as scale bytes from fault.NoMemory kind place f g = tt

@@ -1,0 +1,502 @@
+-- The first token that the reader doesn't take is the first faulty one, and of its kind.
+use Rattle.std.proofs.Common.{◌≡◌, ℕ, zero, suc, nat_lt, cond, Bool, true, false, Some, None, Result, Ok, Err, List, [], ◌∷◌, ◌++◌, ◌⊎◌, inl, inr, refl, sym, ap, subst, ◌∙◌}
+use Rattle.std.proofs.lemmas.List.{same_from_push}
+use Rattle.wkt_text.specs.declared.word.TypeWord.{TypeWord}
+use Rattle.wkt_text.specs.declared.word.TypeWord.TheVariants as type
+use Rattle.wkt_text.specs.declared.word.Tag.{Tag}
+use Rattle.wkt_text.specs.declared.word.Tag.TheVariants.{Plain, Z, M, Zm}
+use Rattle.wkt_text.specs.declared.token.Token.{Token}
+use Rattle.wkt_text.specs.declared.token.Token.TheVariants as token
+use Rattle.wkt_text.specs.declared.control.Role.{Role}
+use Rattle.wkt_text.specs.declared.control.Role.TheVariants.{Head, Deep, Demanded, Further}
+use Rattle.wkt_text.specs.declared.control.Rings.TheVariants.{Shell, Hole, Hollow}
+use Rattle.wkt_text.specs.declared.control.Site.{Site}
+use Rattle.wkt_text.specs.declared.control.Site.TheVariants as site
+use Rattle.wkt_text.specs.declared.control.Step.{Step}
+use Rattle.wkt_text.specs.declared.control.Step.TheVariants.{Start, Tagged, Body, Item, First, Second, Two, Three, After, Full, Done}
+use Rattle.wkt_text.specs.declared.control.Control.{Control}
+use Rattle.wkt_text.specs.declared.control.WktKind.{WktKind}
+use Rattle.wkt_text.specs.declared.control.WktKind.TheVariants.{Syntax, UnknownType, Ragged}
+use Rattle.wkt_text.specs.declared.build.Build.{Build}
+use Rattle.wkt_text.specs.Machine.{Next, advance, advance_by, at_after, at_body, refused_kind, refused_by, step_ended, second_role}
+use Rattle.wkt_text.specs.Grammar.{Slot, slot}
+use Rattle.wkt_text.specs.Rules.{act, start_build}
+use Rattle.wkt_text.specs.Reading.{IsTaken, IsFaulty}
+use Rattle.wkt_text.specs.Faults.{tokens_of, builds, IsRight, Continues, IsRefused, IsExpected, IsWord, IsOrdinate, IsAfterThird, IsUnknownType, IsRagged, HasKind, breaks, unknown_type, ragged, syntax}
+use Rattle.wkt_text.proofs.Parses.{at, start, Run, Goes, run_spelled}
+use Rattle.wkt_text.proofs.Spells.{spelled_run}
+use Rattle.wkt_text.proofs.Ends.{ends}
+use Rattle.wkt_text.proofs.Courses.{goes_split, goes_join, goes_push, goes_same, some_same, Last, last_of, builds_front, builds_one, builds_push, tokens_pushed, tokens_of-push}
+
+-- The reader has taken these tokens: it is there, and has built that.
+pub record Taken (ts : List Token) (c : Control) (b : Build) : Type 0 where
+  pub front : List Slot
+  pub tokens : tokens_of front ≡ ts
+  pub goes : Goes start front c
+  pub kept : builds start_build front ≡ Ok b
+
+-- What is taken is right.
+pub taken_right : (ts : List Token) (c : Control) (b : Build) → Taken ts c b → IsRight ts
+taken_right ts c b k =
+    let (rest, h) = ends c in
+    let (g, e) = run_spelled (k.front ++ rest) (goes_join k.front rest start c k.goes h) in
+    record { geometry = g; front = k.front; rest = rest; build = b; spelled = sym e; tokens = k.tokens; kept = k.kept }
+
+-- A token that the reader takes goes on.
+pub taken_continues : (ts : List Token) (c c' : Control) (b : Build) (t : Token) (r : Role) → Taken ts c b → advance c t ≡ Some (r, c') → Continues ts b t r
+taken_continues ts c c' b t r k e =
+    let (rest, h) = ends c' in
+    let (g, s) = run_spelled (k.front ++ slot t r ∷ rest) (goes_join k.front (slot t r ∷ rest) start c k.goes (c', e, h)) in
+    record { geometry = g; front = k.front; rest = rest; spelled = sym s; tokens = k.tokens; kept = k.kept }
+
+ok_same : {a b : Build} → ◌≡◌ {A = Result Build WktKind} (Ok a) (Ok b) → a ≡ b
+ok_same e = cc
+
+-- A token that goes on is one that the reader takes.
+pub continues_taken : (ts : List Token) (c : Control) (b b' : Build) (t : Token) (r : Role) → Taken ts c b → Continues ts b' t r →
+    (c' : Control) × (advance c t ≡ Some (r, c')) × (b ≡ b')
+continues_taken ts c b b' t r k n =
+    let (d, g, (c', e, h)) = goes_split n.front (slot t r ∷ n.rest) start (subst (λ u. Run start u) n.spelled (spelled_run n.geometry)) in
+    let (fronts, controls) = goes_same k.front n.front start c d k.goes g (k.tokens ∙ sym n.tokens) in
+    (c', ap (λ u. advance u t) controls ∙ e, ok_same (sym k.kept ∙ ap (builds start_build) fronts ∙ n.kept))
+
+-- Where the tokens are right with one more, the reader takes it.
+pub right_taken : (ts : List Token) (c : Control) (b : Build) (t : Token) → Taken ts c b → IsRight (ts ++ t ∷ []) →
+    (c' : Control) × (b' : Build) × IsTaken c b t c' b'
+right_taken ts c b t k n =
+    let (f, r, e, same) = tokens_pushed n.front ts t n.tokens in
+    let (c', g, h) = goes_split (f ++ slot t r ∷ []) n.rest start
+    (subst (λ u. Run start (u ++ n.rest)) e (subst (λ u. Run start u) n.spelled (spelled_run n.geometry))) in
+    let (d, g₁, (c₁, e₁, last)) = goes_prefix f (slot t r ∷ []) start c' g in
+    let (fronts, controls) = goes_same k.front f start c d k.goes g₁ (k.tokens ∙ sym same) in
+    let (b₁, e₂, e₃) = builds_front f (slot t r ∷ []) start_build n.build (ap (builds start_build) (sym e) ∙ n.kept) in
+    let builts = ok_same (sym k.kept ∙ ap (builds start_build) fronts ∙ e₂) in (
+      c₁,
+      n.build,
+      record {
+        role = r;
+        next = ap (λ u. advance u t) controls ∙ e₁;
+        done = ap (λ u. act u r t) builts ∙ builds_one b₁ n.build t r e₃;
+      },
+    )
+  where
+    goes_prefix : (front rest : List Slot) (c c' : Control) → Goes c (front ++ rest) c' → (d : Control) × Goes c front d × Goes d rest c'
+    goes_prefix [] rest c c' h = (c, refl, h)
+    goes_prefix (x ∷ front) rest c c' (c₁, e, h) = let (d, g, r) = goes_prefix front rest c₁ c' h in (d, (c₁, e, g), r)
+
+-- One more token is taken.
+pub taken_more : (ts : List Token) (c c' : Control) (b b' : Build) (t : Token) → Taken ts c b → IsTaken c b t c' b' → Taken (ts ++ t ∷ []) c' b'
+taken_more ts c c' b b' t k n = record {
+  front = k.front ++ slot t n.role ∷ [];
+  tokens = tokens_of-push k.front t n.role ∙ ap (λ u. u ++ t ∷ []) k.tokens;
+  goes = goes_push k.front start c c' t n.role k.goes n.next;
+  kept = builds_push k.front start_build b b' t n.role k.kept n.done;
+}
+
+pub taken_none : Taken [] start start_build
+taken_none = record { front = []; tokens = refl; goes = refl; kept = refl }
+
+-- ---- what a purpose says of where the reader is
+
+abbrev IsStart : Step → Type 0
+IsStart Start = Unit {0}
+IsStart other = ⊥
+
+abbrev IsFull : Step → Type 0
+IsFull Full = Unit {0}
+IsFull other = ⊥
+
+abbrev IsNotFull : Step → Type 0
+IsNotFull Full = ⊥
+IsNotFull other = Unit {0}
+
+abbrev IsLate : Step → Type 0
+IsLate Full = Unit {0}
+IsLate Three = Unit {0}
+IsLate other = ⊥
+
+abbrev IsTagged : Tag → Type 0
+IsTagged Plain = ⊥
+IsTagged other = Unit {0}
+
+abbrev IsDemanding : Step → Tag → Type 0
+IsDemanding Two tag = IsTagged tag
+IsDemanding Three tag = IsTagged tag
+IsDemanding other tag = ⊥
+
+abbrev RoleFact : Role → Step → Tag → Step → Type 0
+RoleFact Head step tag next = IsStart step × IsNotFull next
+RoleFact Demanded step tag next = IsDemanding step tag × IsLate next
+RoleFact Further step tag next = IsLate next
+RoleFact other step tag next = IsNotFull next
+
+abbrev Fact : Step → Tag → Next → Type 0
+Fact step tag None = Unit {0}
+Fact step tag (Some n) = RoleFact n.0 step tag n.1.step
+
+ended_not_full : (d : ℕ) → IsNotFull (step_ended d)
+ended_not_full zero = tt
+ended_not_full (suc d) = tt
+
+fact_after : (step : Step) (s : Site) (d : ℕ) (tag : Tag) (t : Token) (from_step : Step) → Fact step tag (at_after (at from_step s d tag) t)
+fact_after step site.Top d tag token.Comma f = tt
+fact_after step site.Top zero tag token.Close f = tt
+fact_after step site.Top (suc d) tag token.Close f = ended_not_full d
+fact_after step site.Top d tag other f = tt
+fact_after step site.Point d tag token.Close f = ended_not_full d
+fact_after step site.Point d tag other f = tt
+fact_after step (site.Line false) d tag token.Close f = ended_not_full d
+fact_after step (site.Line true) d tag token.Close f = tt
+fact_after step (site.Line many) d tag other f = tt
+fact_after step site.Points d tag token.Close f = ended_not_full d
+fact_after step site.Points d tag other f = tt
+fact_after step site.Element d tag token.Close f = tt
+fact_after step site.Element d tag other f = tt
+fact_after step site.Lines d tag token.Close f = ended_not_full d
+fact_after step site.Lines d tag other f = tt
+fact_after step site.Polygons d tag token.Close f = ended_not_full d
+fact_after step site.Polygons d tag other f = tt
+fact_after step (site.Polygon false Shell) d tag token.Close f = ended_not_full d
+fact_after step (site.Polygon false Hole) d tag token.Close f = ended_not_full d
+fact_after step (site.Polygon false Hollow) d tag token.Close f = ended_not_full d
+fact_after step (site.Polygon true Shell) d tag token.Close f = tt
+fact_after step (site.Polygon true Hole) d tag token.Close f = tt
+fact_after step (site.Polygon true Hollow) d tag token.Close f = tt
+fact_after step (site.Polygon many Shell) d tag other f = tt
+fact_after step (site.Polygon many Hole) d tag other f = tt
+fact_after step (site.Polygon many Hollow) d tag other f = tt
+fact_after step (site.Ring many false) d tag token.Close f = tt
+fact_after step (site.Ring many true) d tag token.Close f = tt
+fact_after step (site.Ring many hole) d tag other f = tt
+
+fact_body : (step : Step) (kind : TypeWord) (s : Site) (d : ℕ) (tag : Tag) (t : Token) (from_step : Step) → Fact step tag (at_body (at from_step s d tag) kind t)
+fact_body step type.Point s d tag token.Empty f = ended_not_full d
+fact_body step type.LineString s d tag token.Empty f = ended_not_full d
+fact_body step type.Polygon s d tag token.Empty f = ended_not_full d
+fact_body step type.MultiPoint s d tag token.Empty f = ended_not_full d
+fact_body step type.MultiLineString s d tag token.Empty f = ended_not_full d
+fact_body step type.MultiPolygon s d tag token.Empty f = ended_not_full d
+fact_body step type.GeometryCollection s zero tag token.Empty f = tt
+fact_body step type.GeometryCollection s (suc d) tag token.Empty f = ended_not_full d
+fact_body step type.Point s d tag other f = tt
+fact_body step type.LineString s d tag other f = tt
+fact_body step type.Polygon s d tag other f = tt
+fact_body step type.MultiPoint s d tag other f = tt
+fact_body step type.MultiLineString s d tag other f = tt
+fact_body step type.MultiPolygon s d tag other f = tt
+fact_body step type.GeometryCollection s d tag other f = tt
+
+fact_head : (b : Bool) (tag : Tag) (next : Step) → IsNotFull next → RoleFact (cond b Head Deep) Start tag next
+fact_head true tag next h = (tt, h)
+fact_head false tag next h = h
+
+fact_start : (s : Site) (d : ℕ) (tag : Tag) (t : Token) → Fact Start tag (advance_by Start (at Start s d tag) t)
+fact_start s d tag (token.Type type.GeometryCollection Plain) = fact_head (nat_lt d 32) tag _ tt
+fact_start s d tag (token.Type type.GeometryCollection Z) = fact_head (nat_lt d 32) tag _ tt
+fact_start s d tag (token.Type type.GeometryCollection M) = fact_head (nat_lt d 32) tag _ tt
+fact_start s d tag (token.Type type.GeometryCollection Zm) = fact_head (nat_lt d 32) tag _ tt
+fact_start s d tag (token.Type kind Plain) = (tt, tt)
+fact_start s d tag (token.Type kind Z) = (tt, tt)
+fact_start s d tag (token.Type kind M) = (tt, tt)
+fact_start s d tag (token.Type kind Zm) = (tt, tt)
+fact_start s d tag other = tt
+
+fact_item : (s : Site) (d : ℕ) (tag : Tag) (t : Token) → Fact Item tag (advance_by Item (at Item s d tag) t)
+fact_item site.Points d tag token.Open = tt
+fact_item site.Points d tag (token.Number n) = tt
+fact_item site.Lines d tag token.Open = tt
+fact_item site.Polygons d tag token.Open = tt
+fact_item (site.Polygon many Shell) d tag token.Open = tt
+fact_item (site.Polygon many Hole) d tag token.Open = tt
+fact_item (site.Polygon many Hollow) d tag t = fact_hollow t
+  where
+    fact_hollow : (t : Token) → Fact Item tag (advance_by Item (at Item (site.Polygon many Hollow) d tag) t)
+    fact_hollow token.Open = tt
+    fact_hollow other = tt
+fact_item site.Points d tag other = tt
+fact_item site.Lines d tag other = tt
+fact_item site.Polygons d tag other = tt
+fact_item (site.Polygon many Shell) d tag other = tt
+fact_item (site.Polygon many Hole) d tag other = tt
+fact_item site.Top d tag token.Open = tt
+fact_item site.Top d tag other = tt
+fact_item site.Point d tag token.Open = tt
+fact_item site.Point d tag other = tt
+fact_item (site.Line many) d tag token.Open = tt
+fact_item (site.Line many) d tag other = tt
+fact_item site.Element d tag token.Open = tt
+fact_item site.Element d tag other = tt
+fact_item (site.Ring many hole) d tag token.Open = tt
+fact_item (site.Ring many hole) d tag other = tt
+
+fact_second : (s : Site) (tag : Tag) → RoleFact (second_role s) Second tag Two
+fact_second site.Point tag = tt
+fact_second site.Points tag = tt
+fact_second site.Element tag = tt
+fact_second other tag = tt
+
+fact_more : (s : Site) (d : ℕ) (tag : Tag) (t : Token) → Fact Two tag (advance_by Two (at Two s d tag) t)
+fact_more s d Plain (token.Number n) = tt
+fact_more s d Plain token.Nan = tt
+fact_more s d Plain other = fact_after Two s d Plain other Two
+fact_more s d Z (token.Number n) = (tt, tt)
+fact_more s d Z token.Nan = (tt, tt)
+fact_more s d Z other = tt
+fact_more s d M (token.Number n) = (tt, tt)
+fact_more s d M token.Nan = (tt, tt)
+fact_more s d M other = tt
+fact_more s d Zm (token.Number n) = (tt, tt)
+fact_more s d Zm token.Nan = (tt, tt)
+fact_more s d Zm other = tt
+
+fact_last : (s : Site) (d : ℕ) (tag : Tag) (t : Token) → Fact Three tag (advance_by Three (at Three s d tag) t)
+fact_last s d Plain (token.Number n) = tt
+fact_last s d Plain token.Nan = tt
+fact_last s d Plain other = fact_after Three s d Plain other Three
+fact_last s d Z (token.Number n) = (tt, tt)
+fact_last s d Z token.Nan = (tt, tt)
+fact_last s d Z other = tt
+fact_last s d M (token.Number n) = (tt, tt)
+fact_last s d M token.Nan = (tt, tt)
+fact_last s d M other = tt
+fact_last s d Zm (token.Number n) = (tt, tt)
+fact_last s d Zm token.Nan = (tt, tt)
+fact_last s d Zm other = tt
+
+fact : (step : Step) (s : Site) (d : ℕ) (tag : Tag) (t : Token) → Fact step tag (advance_by step (at step s d tag) t)
+fact Start s d tag t = fact_start s d tag t
+fact (Tagged kind) s d tag (token.Tag u) = tt
+fact (Tagged kind) s d tag other = fact_body (Tagged kind) kind s d tag other (Tagged kind)
+fact (Body kind) s d tag t = fact_body (Body kind) kind s d tag t (Body kind)
+fact Item s d tag t = fact_item s d tag t
+fact First s d tag (token.Number n) = tt
+fact First s d tag other = tt
+fact Second s d tag (token.Number n) = fact_second s tag
+fact Second s d tag other = tt
+fact Two s d tag t = fact_more s d tag t
+fact Three s d tag t = fact_last s d tag t
+fact After s d tag t = fact_after After s d tag t After
+fact Full s d tag t = fact_after Full s d tag t Full
+fact Done s d tag t = tt
+
+-- What is so of a token that the reader takes.
+role_fact : (c c' : Control) (t : Token) (r : Role) → advance c t ≡ Some (r, c') → RoleFact r c.step c.tag c'.step
+unfolding advance
+role_fact c c' t r e = subst (λ n. Fact c.step c.tag n) e (fact c.step c.site c.depth c.tag t)
+
+-- ---- the kind of a token that the reader doesn't take
+
+abbrev Cause : Step → Tag → Token → WktKind → Type 0
+Cause step tag t kind =
+    (IsWord t × IsStart step × (kind ≡ UnknownType)) ⊎ ((IsDemanding step tag ⊎ (IsOrdinate t × IsFull step)) × (kind ≡ Ragged))
+    ⊎ ((IsWord t → IsStart step → ⊥) × (IsDemanding step tag → ⊥) × (IsOrdinate t → IsFull step → ⊥) × (kind ≡ Syntax))
+
+cause : (step : Step) (tag : Tag) (t : Token) → Cause step tag t (refused_by step tag t)
+cause Start tag (token.Tag u) = inl (tt, tt, refl)
+cause Start tag token.Empty = inl (tt, tt, refl)
+cause Start tag token.Nan = inl (tt, tt, refl)
+cause Start tag token.Word = inl (tt, tt, refl)
+cause Start tag other = inr (inr (λ a b. a, λ a. a, λ a b. b, refl))
+cause Two Plain t = inr (inr (λ a b. b, λ a. a, λ a b. b, refl))
+cause Two Z t = inr (inl (inl tt, refl))
+cause Two M t = inr (inl (inl tt, refl))
+cause Two Zm t = inr (inl (inl tt, refl))
+cause Three Plain t = inr (inr (λ a b. b, λ a. a, λ a b. b, refl))
+cause Three Z t = inr (inl (inl tt, refl))
+cause Three M t = inr (inl (inl tt, refl))
+cause Three Zm t = inr (inl (inl tt, refl))
+cause Full tag (token.Number n) = inr (inl (inr (tt, tt), refl))
+cause Full tag token.Nan = inr (inl (inr (tt, tt), refl))
+cause Full tag other = inr (inr (λ a b. b, λ a. a, λ a b. a, refl))
+cause (Tagged kind) tag t = inr (inr (λ a b. b, λ a. a, λ a b. b, refl))
+cause (Body kind) tag t = inr (inr (λ a b. b, λ a. a, λ a b. b, refl))
+cause Item tag t = inr (inr (λ a b. b, λ a. a, λ a b. b, refl))
+cause First tag t = inr (inr (λ a b. b, λ a. a, λ a b. b, refl))
+cause Second tag t = inr (inr (λ a b. b, λ a. a, λ a b. b, refl))
+cause After tag t = inr (inr (λ a b. b, λ a. a, λ a b. b, refl))
+cause Done tag t = inr (inr (λ a b. b, λ a. a, λ a b. b, refl))
+
+-- A type word may stand at the start, and a demanded ordinate where the tag demands one.
+start_expected : (ts : List Token) (step : Step) (s : Site) (d : ℕ) (tag : Tag) (b : Build) → Taken ts (at step s d tag) b → IsStart step → IsExpected ts Head
+unfolding advance
+start_expected ts Start s d tag b k h =
+    record { token = token.Type type.Point Z; build = b; continues = taken_continues ts (at Start s d tag) (at (Body type.Point) s d Z) b (token.Type type.Point Z) Head k refl }
+start_expected ts (Tagged kind) s d tag b k h = elim h [ ]
+start_expected ts (Body kind) s d tag b k h = elim h [ ]
+start_expected ts Item s d tag b k h = elim h [ ]
+start_expected ts First s d tag b k h = elim h [ ]
+start_expected ts Second s d tag b k h = elim h [ ]
+start_expected ts Two s d tag b k h = elim h [ ]
+start_expected ts Three s d tag b k h = elim h [ ]
+start_expected ts After s d tag b k h = elim h [ ]
+start_expected ts Full s d tag b k h = elim h [ ]
+start_expected ts Done s d tag b k h = elim h [ ]
+
+demanded_expected : (ts : List Token) (step : Step) (s : Site) (d : ℕ) (tag : Tag) (b : Build) → Taken ts (at step s d tag) b → IsDemanding step tag → IsExpected ts Demanded
+unfolding advance
+demanded_expected ts Two s d Z b k h = record { token = token.Nan; build = b; continues = taken_continues ts (at Two s d Z) (at Full s d Z) b token.Nan Demanded k refl }
+demanded_expected ts Two s d M b k h = record { token = token.Nan; build = b; continues = taken_continues ts (at Two s d M) (at Full s d M) b token.Nan Demanded k refl }
+demanded_expected ts Two s d Zm b k h = record { token = token.Nan; build = b; continues = taken_continues ts (at Two s d Zm) (at Three s d Zm) b token.Nan Demanded k refl }
+demanded_expected ts Three s d Z b k h = record { token = token.Nan; build = b; continues = taken_continues ts (at Three s d Z) (at Full s d Z) b token.Nan Demanded k refl }
+demanded_expected ts Three s d M b k h = record { token = token.Nan; build = b; continues = taken_continues ts (at Three s d M) (at Full s d M) b token.Nan Demanded k refl }
+demanded_expected ts Three s d Zm b k h = record { token = token.Nan; build = b; continues = taken_continues ts (at Three s d Zm) (at Full s d Zm) b token.Nan Demanded k refl }
+demanded_expected ts Start s d tag b k h = elim h [ ]
+demanded_expected ts (Tagged kind) s d tag b k h = elim h [ ]
+demanded_expected ts (Body kind) s d tag b k h = elim h [ ]
+demanded_expected ts Item s d tag b k h = elim h [ ]
+demanded_expected ts First s d tag b k h = elim h [ ]
+demanded_expected ts Second s d tag b k h = elim h [ ]
+demanded_expected ts Two s d Plain b k h = elim h [ ]
+demanded_expected ts Three s d Plain b k h = elim h [ ]
+demanded_expected ts After s d tag b k h = elim h [ ]
+demanded_expected ts Full s d tag b k h = elim h [ ]
+demanded_expected ts Done s d tag b k h = elim h [ ]
+
+refused_by_reader : (ts : List Token) (c : Control) (b : Build) (t : Token) → Taken ts c b → advance c t ≡ None → IsRefused ts t
+refused_by_reader ts c b t k e b' r n = let (c', e', same) = continues_taken ts c b b' t r k n in none_is_some (sym e ∙ e')
+  where
+    none_is_some : {A : Type 0} {x : A} → None ≡ Some x → ⊥
+    none_is_some e = cc
+
+-- What the reader took last.
+record LastTaken (ts : List Token) (c : Control) : Type 0 where
+  before : List Token
+  token : Token
+  role : Role
+  control : Control
+  build : Build
+  joined : ts ≡ before ++ token ∷ []
+  taken : Taken before control build
+  next : advance control token ≡ Some (role, c)
+
+last_taken : (ts : List Token) (c : Control) (b : Build) → Taken ts c b → ((start ≡ c) × (ts ≡ [])) ⊎ LastTaken ts c
+last_taken ts c b k = go (last_of k.front start c k.goes)
+  where
+    made : (l : Last start k.front c) → (d : Build) × (builds start_build l.before ≡ Ok d) × (builds d (slot l.token l.role ∷ []) ≡ Ok b) → LastTaken ts c
+    made l (d, e, f) = record {
+      before = tokens_of l.before;
+      token = l.token;
+      role = l.role;
+      control = l.control;
+      build = d;
+      joined = sym k.tokens ∙ ap tokens_of l.joined ∙ tokens_of-push l.before l.token l.role;
+      taken = record { front = l.before; tokens = refl; goes = l.goes; kept = e };
+      next = l.next;
+    }
+
+    go : ((start ≡ c) × (k.front ≡ [])) ⊎ Last start k.front c → ((start ≡ c) × (ts ≡ [])) ⊎ LastTaken ts c
+    go (inl (e, none)) = inl (e, sym k.tokens ∙ ap tokens_of none)
+    go (inr l) = inr (made l (builds_front l.before (slot l.token l.role ∷ []) start_build b (ap (builds start_build) (sym l.joined) ∙ k.kept)))
+
+not_both : (next : Step) → IsFull next → IsNotFull next → ⊥
+not_both Full h k = k
+not_both other h k = h
+
+full_third : (r : Role) (step next : Step) (tag : Tag) → RoleFact r step tag next → IsFull next → (r ≡ Demanded) ⊎ (r ≡ Further)
+full_third Demanded step next tag f h = inl refl
+full_third Further step next tag f h = inr refl
+full_third Head step next tag f h = absurd (not_both next h f.1)
+full_third other step next tag f h = absurd (not_both next h f)
+
+third_late : (r : Role) (step next : Step) (tag : Tag) → RoleFact r step tag next → (r ≡ Demanded) ⊎ (r ≡ Further) → IsLate next
+third_late r step next tag f (inl e) = (subst (λ u. RoleFact u step tag next) e f).1
+third_late r step next tag f (inr e) = subst (λ u. RoleFact u step tag next) e f
+
+some_none : {A : Type 0} {x : A} → Some x ≡ None → ⊥
+some_none e = cc
+
+late_refused : (step : Step) (s : Site) (d : ℕ) (tag : Tag) (t : Token) → IsLate step → IsOrdinate t → advance_by step (at step s d tag) t ≡ None → IsFull step
+late_refused Full s d tag t l o e = tt
+late_refused Three s d tag (token.Number n) l o e = absurd (some_none e)
+late_refused Three s d tag token.Nan l o e = absurd (some_none e)
+late_refused Three s d tag other l o e = absurd o
+late_refused other s d tag t l o e = absurd l
+
+push_nil : (ts : List Token) (t : Token) → [] ≡ ts ++ t ∷ [] → ⊥
+push_nil [] t e = absurd (cc)
+push_nil (u ∷ ts) t e = absurd (cc)
+
+start_not_full : (c : Control) → start ≡ c → IsFull c.step → ⊥
+start_not_full c e h = subst (λ (u : Control). IsFull u.step → ⊥) e (λ k. k) h
+
+after_third : (ts : List Token) (c : Control) (b : Build) → Taken ts c b → IsFull c.step → IsAfterThird ts
+after_third ts c b k full = go (last_taken ts c b k)
+  where
+    go : ((start ≡ c) × (ts ≡ [])) ⊎ LastTaken ts c → IsAfterThird ts
+    go (inl (e, none)) = absurd (start_not_full c e full)
+    go (inr l) = record {
+      before = l.before;
+      last = l.token;
+      role = l.role;
+      build = l.build;
+      third = full_third l.role l.control.step c.step l.control.tag (role_fact l.control c l.token l.role l.next) full;
+      joined = l.joined;
+      continues = taken_continues l.before l.control c l.build l.token l.role l.taken l.next;
+    }
+
+third_is_late : (ts : List Token) (c : Control) (b : Build) → Taken ts c b → IsAfterThird ts → IsLate c.step
+third_is_late ts c b k a = go (last_taken ts c b k)
+  where
+    go : ((start ≡ c) × (ts ≡ [])) ⊎ LastTaken ts c → IsLate c.step
+    go (inl (e, none)) = absurd (push_nil a.before a.last (sym none ∙ a.joined))
+    go (inr l) =
+        let (fronts, tokens) = same_from_push l.before a.before l.token a.last (sym l.joined ∙ a.joined) in
+        let (c', e, same) = continues_taken l.before l.control l.build a.build a.last a.role l.taken (subst (λ u. Continues u a.build a.last a.role) (sym fronts) a.continues) in
+        let (roles, controls) = some_same {a = a.role} {b = l.role} {c = c'} {d = c} (sym e ∙ ap (advance l.control) (sym tokens) ∙ l.next) in
+        third_late l.role l.control.step c.step l.control.tag (role_fact l.control c l.token l.role l.next)
+        (subst (λ u. (u ≡ Demanded) ⊎ (u ≡ Further)) roles a.third)
+
+-- A token that the reader doesn't take has the kind that it says.
+pub refused_has_kind : (ts : List Token) (c : Control) (b : Build) (t : Token) → Taken ts c b → advance c t ≡ None → HasKind ts t (refused_kind c t)
+unfolding advance refused_kind
+refused_has_kind ts c b t k none = go (cause c.step c.tag t)
+  where
+    refused : IsRefused ts t
+    refused = refused_by_reader ts c b t k none
+
+    not_unknown : (IsWord t → IsStart c.step → ⊥) → IsUnknownType ts t → ⊥
+    not_unknown f (w, x) = let (c', e, same) = continues_taken ts c b x.build x.token Head k x.continues in f w (role_fact c c' x.token Head e).0
+
+    not_ragged : (IsDemanding c.step c.tag → ⊥) → (IsOrdinate t → IsFull c.step → ⊥) → IsRagged ts t → ⊥
+    not_ragged f g (inl x) = let (c', e, same) = continues_taken ts c b x.build x.token Demanded k x.continues in f (role_fact c c' x.token Demanded e).0
+    not_ragged f g (inr (o, a)) = g o (late_refused c.step c.site c.depth c.tag t (third_is_late ts c b k a) o none)
+
+    go : Cause c.step c.tag t (refused_by c.step c.tag t) → HasKind ts t (refused_by c.step c.tag t)
+    go (inl (w, s, e)) = subst (λ u. HasKind ts t u) (sym e) (unknown_type refused (w, start_expected ts c.step c.site c.depth c.tag b k s))
+    go (inr (inl (inl d, e))) = subst (λ u. HasKind ts t u) (sym e) (ragged refused (inl (demanded_expected ts c.step c.site c.depth c.tag b k d)))
+    go (inr (inl (inr (o, f), e))) = subst (λ u. HasKind ts t u) (sym e) (ragged refused (inr (o, after_third ts c b k f)))
+    go (inr (inr (f, g, h, e))) = subst (λ u. HasKind ts t u) (sym e) (syntax refused (not_unknown f) (not_ragged g h))
+
+ok_err : {b : Build} {kind : WktKind} → ◌≡◌ {A = Result Build WktKind} (Ok b) (Err kind) → ⊥
+ok_err e = cc
+
+-- With a token that the reader doesn't take, the tokens are no more right.
+pub faulty_wrong : (ts : List Token) (c : Control) (b : Build) (t : Token) (kind : WktKind) → Taken ts c b → IsFaulty c b t kind → IsRight (ts ++ t ∷ []) → ⊥
+faulty_wrong ts c b t kind k (inl (none, e)) right = let (c', b', n) = right_taken ts c b t k right in some_none (sym n.next ∙ none)
+faulty_wrong ts c b t kind k (inr x) right =
+    let (c', b', n) = right_taken ts c b t k right in
+    let (roles, controls) = some_same {a = n.role} {b = x.role} {c = c'} {d = x.control} (sym n.next ∙ x.next) in
+    ok_err (sym n.done ∙ ap (λ u. act b u t) roles ∙ x.stopped)
+
+-- The kind of a token that the reader doesn't take.
+pub faulty_has_kind : (ts : List Token) (c : Control) (b : Build) (t : Token) (kind : WktKind) → Taken ts c b → IsFaulty c b t kind → HasKind ts t kind
+faulty_has_kind ts c b t kind k (inl (none, e)) = subst (λ u. HasKind ts t u) (sym e) (refused_has_kind ts c b t k none)
+faulty_has_kind ts c b t kind k (inr x) = breaks b x.role (taken_continues ts c x.control b t x.role k x.next) x.stopped
+
+start_not_late : (step : Step) → IsStart step → IsLate step → ⊥
+start_not_late Start h k = k
+start_not_late other h k = h
+
+start_not_demanding : (step : Step) (tag : Tag) → IsStart step → IsDemanding step tag → ⊥
+start_not_demanding Start tag h k = k
+start_not_demanding other tag h k = h
+
+-- A type word and a further ordinate aren't expected at once.
+pub unknown_not_ragged : (ts : List Token) (c : Control) (b : Build) (t : Token) → Taken ts c b → IsUnknownType ts t → IsRagged ts t → ⊥
+unknown_not_ragged ts c b t k (w, x) ragged_so =
+    let (c', e, same) = continues_taken ts c b x.build x.token Head k x.continues in
+    go (role_fact c c' x.token Head e).0 ragged_so
+  where
+    go : IsStart c.step → IsRagged ts t → ⊥
+    go s (inl y) = let (c', e, same) = continues_taken ts c b y.build y.token Demanded k y.continues in start_not_demanding c.step c.tag s (role_fact c c' y.token Demanded e).0
+    go s (inr (o, a)) = start_not_late c.step s (third_is_late ts c b k a)

@@ -1,0 +1,10 @@
+pub mod Capped
+pub mod Ends
+pub mod Exact
+pub mod FirstFaults
+pub mod Parses
+pub mod Progress
+pub mod Shapes
+pub mod Courses
+pub mod Spells
+pub mod Values

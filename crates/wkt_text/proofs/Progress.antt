@@ -1,0 +1,272 @@
+-- The reader goes on through the bytes.
+use Rattle.std.proofs.Common.{◌≡◌, ℕ, ◌<◌, Bool, true, false, Some, None, Result, Ok, Err, List, [], ◌∷◌, ◌++◌, ◌⊎◌, inl, inr, refl, sym, ap, subst, ◌∙◌, drop, arith}
+use Rattle.std.specs.Char.{is_ascii_alphabetic}
+use Rattle.wkt_text.specs.declared.token.Token.{Token}
+use Rattle.wkt_text.specs.declared.token.Token.TheVariants as token
+use Rattle.wkt_text.specs.declared.control.Role.{Role}
+use Rattle.wkt_text.specs.declared.control.Role.TheVariants.{Deep}
+use Rattle.wkt_text.specs.declared.control.Site.{Site}
+use Rattle.wkt_text.specs.declared.word.Tag.{Tag}
+use Rattle.wkt_text.specs.declared.word.Tag.TheVariants.{Plain, Z, M, Zm}
+use Rattle.wkt_text.specs.declared.control.Step.{Step}
+use Rattle.wkt_text.specs.declared.control.Step.TheVariants.{Two, Three, Done}
+use Rattle.wkt_text.specs.declared.control.Control.{Control}
+use Rattle.wkt_text.specs.declared.control.WktKind.{WktKind}
+use Rattle.wkt_text.specs.declared.build.Build.{Build}
+use Rattle.wkt_text.specs.Machine.{advance, advance_by, is_done}
+use Rattle.wkt_text.specs.Reading.{IsTaken, IsFaulty, FailsAt}
+use Rattle.wkt_text.specs.Results.{IsFirstFault}
+use Rattle.wkt_text.specs.declared.read.WktFault.{WktFault}
+use Rattle.wkt_text.specs.declared.read.WktFault.TheVariants as fault
+use Rattle.wkt_text.specs.Rules.{act, start_build}
+use Rattle.wkt_text.specs.Tokens.{token_in, is_number_start, lexeme_at, place_of}
+use Rattle.wkt_text.specs.Grammar.{spelling}
+use Rattle.point_set.specs.declared.figure.Figure.{Figure}
+use Rattle.std.proofs.lemmas.List.{append_assoc, append-nil}
+use Rattle.wkt_text.specs.Faults.{Stands, tokens_of, builds, Reads, IsRight, IsOnlyWhite, FirstFault}
+use Rattle.wkt_text.proofs.Spells.{spelled_run}
+use Rattle.wkt_text.proofs.Courses.{run_goes, goes_parts, goes_same, builds_front, tokens_split}
+use Rattle.wkt_text.proofs.Parses.{at, start, Goes, run_spelled, goes_run}
+use Rattle.wkt_text.proofs.FirstFaults.{Taken, taken_none, taken_more, taken_right, right_taken, faulty_wrong, faulty_has_kind}
+
+either : (b : Bool) → (b ≡ true) ⊎ (b ≡ false)
+either true = inl refl
+either false = inr refl
+
+-- A token that isn't the end has a byte.
+token_moves : (scale : ℕ) (text : List ℕ) → ((token_in scale text).0 ≡ token.End) ⊎ (0 < (token_in scale text).1)
+token_moves scale [] = inl refl
+token_moves scale (b ∷ rest) = inr (elim (either (is_ascii_alphabetic b)) [
+  | inl letter ↦ rw letter (omega arith)
+  | inr other ↦ elim (either (is_number_start b)) [
+    | inl first ↦ rw (other, first) (omega arith)
+    | inr mark_only ↦ rw (other, mark_only) (omega arith)
+  ]
+])
+
+pub lexeme_moves : (scale : ℕ) (bytes : List ℕ) (from : ℕ) → ((lexeme_at scale bytes from).token ≡ token.End) ⊎ (from < (lexeme_at scale bytes from).«end»)
+unfolding lexeme_at
+lexeme_moves scale bytes from = elim (token_moves scale (drop (place_of bytes from) bytes)) [
+  | inl e ↦ inl e
+  | inr some ↦ inr (omega (arith, some))
+]
+
+end_refused_by : (step : Step) (s : Site) (d : ℕ) (tag : Tag) → advance_by step (at step s d tag) token.End ≡ None
+end_refused_by Two s d Plain = refl
+end_refused_by Two s d Z = refl
+end_refused_by Two s d M = refl
+end_refused_by Two s d Zm = refl
+end_refused_by Three s d Plain = refl
+end_refused_by Three s d Z = refl
+end_refused_by Three s d M = refl
+end_refused_by Three s d Zm = refl
+end_refused_by other s d tag = refl
+
+none_is_some : {A : Type 0} {x : A} → None ≡ Some x → ⊥
+none_is_some e = cc
+
+-- The end of the source is never taken, so what is taken moves on.
+pub taken_moves : (scale : ℕ) (bytes : List ℕ) (from : ℕ) (c c' : Control) (b b' : Build) →
+    IsTaken c b (lexeme_at scale bytes from).token c' b' → from < (lexeme_at scale bytes from).«end»
+unfolding advance
+taken_moves scale bytes from c c' b b' k = elim (lexeme_moves scale bytes from) [
+  | inl e ↦ absurd (none_is_some (sym (end_refused_by c.step c.site c.depth c.tag) ∙ ap (λ u. advance c u) (sym e) ∙ k.next))
+  | inr moves ↦ moves
+]
+
+-- ---- tokens that stand in the bytes
+
+pub stands_push : (scale : ℕ) (bytes : List ℕ) (ts : List Token) (from at_place : ℕ) (t : Token) → Stands scale bytes from ts at_place →
+    (lexeme_at scale bytes at_place).token ≡ t → Stands scale bytes from (ts ++ t ∷ []) (lexeme_at scale bytes at_place).«end»
+stands_push scale bytes [] from at_place t h e = (ap (λ u. (lexeme_at scale bytes u).token) h ∙ e, ap (λ u. (lexeme_at scale bytes u).«end») h)
+stands_push scale bytes (x ∷ ts) from at_place t (h, k) e = (h, stands_push scale bytes ts _ at_place t k e)
+
+-- How far the reader has come.
+pub record SoFar (scale : ℕ) (bytes : List ℕ) (from place : ℕ) (c : Control) (b : Build) : Type 0 where
+  pub tokens : List Token
+  pub stands : Stands scale bytes from tokens place
+  pub taken : Taken tokens c b
+
+pub so_far_none : (scale : ℕ) (bytes : List ℕ) (from : ℕ) → SoFar scale bytes from from start start_build
+so_far_none scale bytes from = record { tokens = []; stands = refl; taken = taken_none }
+
+pub so_far_more : (scale : ℕ) (bytes : List ℕ) (from place : ℕ) (c c' : Control) (b b' : Build) → SoFar scale bytes from place c b →
+    IsTaken c b (lexeme_at scale bytes place).token c' b' → SoFar scale bytes from (lexeme_at scale bytes place).«end» c' b'
+so_far_more scale bytes from place c c' b b' s k = record {
+  tokens = s.tokens ++ (lexeme_at scale bytes place).token ∷ [];
+  stands = stands_push scale bytes s.tokens from place _ s.stands refl;
+  taken = taken_more s.tokens c c' b b' _ s.taken k;
+}
+
+pub so_far_reads : (scale : ℕ) (bytes : List ℕ) (from place : ℕ) (c : Control) (b : Build) → SoFar scale bytes from place c b →
+    c.step ≡ Done → Reads scale bytes from b.figure place
+so_far_reads scale bytes from place c b s done =
+    let (g, e) = run_spelled s.taken.front (goes_run s.taken.front start c s.taken.goes done) in
+    record {
+      geometry = g;
+      build = b;
+      stands = subst (λ u. Stands scale bytes from u place) (sym s.taken.tokens ∙ ap tokens_of e) s.stands;
+      kept = sym (ap (λ u. builds start_build u) e) ∙ s.taken.kept;
+      says = refl;
+    }
+
+-- A type word that is nested too deep is never taken.
+pub deep_stops : (b b' : Build) (r : Role) (t : Token) → r ≡ Deep → act b r t ≡ Ok b' → ⊥
+unfolding act
+deep_stops b b' r t e h = err_ok (ap (λ u. act b u t) (sym e) ∙ h)
+  where
+    err_ok : {k : WktKind} {d : Build} → ◌≡◌ {A = Result Build WktKind} (Err k) (Ok d) → ⊥
+    err_ok e = cc
+
+-- ---- one reading
+
+-- What stands from a place on: of two lists of tokens one goes on where the other ends.
+pub stands_compare : (scale : ℕ) (bytes : List ℕ) (ts us : List Token) (from p q : ℕ) → Stands scale bytes from ts p → Stands scale bytes from us q →
+    ((more : List Token) × (us ≡ ts ++ more) × Stands scale bytes p more q) ⊎ ((more : List Token) × (ts ≡ us ++ more) × Stands scale bytes q more p)
+stands_compare scale bytes [] us from p q h k = inl (us, refl, subst (λ u. Stands scale bytes u us q) h k)
+stands_compare scale bytes (t ∷ ts) [] from p q h k = inr (t ∷ ts, refl, subst (λ u. Stands scale bytes u (t ∷ ts) p) k h)
+stands_compare scale bytes (t ∷ ts) (u ∷ us) from p q (e, h) (f, k) = go (stands_compare scale bytes ts us _ p q h k)
+  where
+    cons_same : {a b : Token} {s t : List Token} → a ≡ b → s ≡ t → a ∷ s ≡ b ∷ t
+    cons_same a b = cc
+
+    go : ((more : List Token) × (us ≡ ts ++ more) × Stands scale bytes p more q) ⊎ ((more : List Token) × (ts ≡ us ++ more) × Stands scale bytes q more p) →
+        ((more : List Token) × (u ∷ us ≡ (t ∷ ts) ++ more) × Stands scale bytes p more q) ⊎ ((more : List Token) × (t ∷ ts ≡ (u ∷ us) ++ more) × Stands scale bytes q more p)
+    go (inl (more, g, m)) = inl (more, cons_same (sym f ∙ e) g, m)
+    go (inr (more, g, m)) = inr (more, cons_same (sym e ∙ f) g, m)
+
+-- What is read was taken to its end.
+pub record Whole (ts : List Token) (b : Build) : Type 0 where
+  pub control : Control
+  pub taken : Taken ts control b
+  pub done : control.step ≡ Done
+
+pub reads_whole : (scale : ℕ) (bytes : List ℕ) (from : ℕ) (figure : Figure) (last : ℕ) (r : Reads scale bytes from figure last) →
+    Whole (tokens_of (spelling r.geometry)) r.build
+reads_whole scale bytes from figure last r =
+    let (c, g, done) = run_goes (spelling r.geometry) start (spelled_run r.geometry) in
+    record { control = c; taken = record { front = spelling r.geometry; tokens = refl; goes = g; kept = r.kept }; done = done }
+
+-- The front of what is taken is taken.
+pub taken_front : (ts more : List Token) (c : Control) (b : Build) → Taken (ts ++ more) c b → (d : Control) × (e : Build) × Taken ts d e × (IsRight (ts ++ more))
+taken_front ts more c b k =
+    let (f, g, joined, same) = tokens_split k.front ts more k.tokens in
+    let (d, h, rest) = goes_parts f g start c (subst (λ u. Goes start u c) joined k.goes) in
+    let (e, kept, more_kept) = builds_front f g start_build b (ap (λ u. builds start_build u) (sym joined) ∙ k.kept) in
+    (d, e, record { front = f; tokens = same; goes = h; kept = kept }, taken_right (ts ++ more) c b k)
+
+-- After the end nothing is taken.
+done_takes_none : (c c' : Control) (t : Token) (r : Role) → c.step ≡ Done → advance c t ≡ Some (r, c') → ⊥
+unfolding advance
+done_takes_none c c' t r done e = none_is_some (ap (λ s. advance_by s c t) (sym done) ∙ e)
+
+taken_same : (ts : List Token) (c d : Control) (b e : Build) → Taken ts c b → Taken ts d e → (c ≡ d) × (b ≡ e)
+taken_same ts c d b e k l =
+    let (fronts, controls) = goes_same k.front l.front start c d k.goes l.goes (k.tokens ∙ sym l.tokens) in
+    (controls, ok_same (sym k.kept ∙ ap (λ u. builds start_build u) fronts ∙ l.kept))
+  where
+    ok_same : {a b : Build} → ◌≡◌ {A = Result Build WktKind} (Ok a) (Ok b) → a ≡ b
+    ok_same e = cc
+
+-- The first of more tokens.
+pub right_front : (ts more : List Token) (t : Token) → IsRight (ts ++ t ∷ more) → IsRight (ts ++ t ∷ [])
+right_front ts more t r =
+    let (f, g, joined, same) = tokens_split r.front (ts ++ t ∷ []) more (r.tokens ∙ sym (append_assoc ts (t ∷ []) more)) in
+    let (e, kept, more_kept) = builds_front f g start_build r.build (ap (λ u. builds start_build u) (sym joined) ∙ r.kept) in
+    record {
+      geometry = r.geometry;
+      front = f;
+      rest = g ++ r.rest;
+      build = e;
+      spelled = r.spelled ∙ ap (λ u. u ++ r.rest) joined ∙ append_assoc f g r.rest;
+      tokens = same;
+      kept = kept;
+    }
+
+-- A list of tokens that is whole goes no further.
+whole_ends : (ts more : List Token) (b d : Build) (c : Control) → Whole ts b → Taken (ts ++ more) c d → more ≡ []
+whole_ends ts [] b d c w k = refl
+whole_ends ts (t ∷ more) b d c w k =
+    let (c', b', n) = right_taken ts w.control b t w.taken (right_front ts more t (taken_right (ts ++ t ∷ more) c d k)) in
+    absurd (done_takes_none w.control c' t n.role w.done n.next)
+
+-- Two readings are one.
+pub one_reading : (scale : ℕ) (bytes : List ℕ) (from : ℕ) (f g : Figure) (p q : ℕ) → Reads scale bytes from f p → Reads scale bytes from g q → (f ≡ g) × (p ≡ q)
+one_reading scale bytes from f g p q r s =
+    go (stands_compare scale bytes (tokens_of (spelling r.geometry)) (tokens_of (spelling s.geometry)) from p q r.stands s.stands)
+  where
+    w : Whole (tokens_of (spelling r.geometry)) r.build
+    w = reads_whole scale bytes from f p r
+
+    v : Whole (tokens_of (spelling s.geometry)) s.build
+    v = reads_whole scale bytes from g q s
+
+    by_tokens : tokens_of (spelling r.geometry) ≡ tokens_of (spelling s.geometry) → f ≡ g
+    by_tokens e = r.says ∙ ap (λ (u : Build). u.figure) (taken_same _ w.control v.control r.build s.build w.taken (subst (λ u. Taken u v.control s.build) (sym e) v.taken)).1 ∙ sym s.says
+
+    ends_at : (more : List Token) (a b : ℕ) → more ≡ [] → Stands scale bytes a more b → a ≡ b
+    ends_at [] a b e h = h
+    ends_at (t ∷ more) a b e h = absurd (cc)
+
+    go : ((more : List Token) × (tokens_of (spelling s.geometry) ≡ tokens_of (spelling r.geometry) ++ more) × Stands scale bytes p more q)
+        ⊎ ((more : List Token) × (tokens_of (spelling r.geometry) ≡ tokens_of (spelling s.geometry) ++ more) × Stands scale bytes q more p) → (f ≡ g) × (p ≡ q)
+    go (inl (more, e, h)) =
+        let none = whole_ends _ more r.build s.build v.control w (subst (λ u. Taken u v.control s.build) e v.taken) in
+        (by_tokens (sym (e ∙ ap (λ u. tokens_of (spelling r.geometry) ++ u) none ∙ append-nil _)), ends_at more p q none h)
+    go (inr (more, e, h)) =
+        let none = whole_ends _ more s.build r.build w.control v (subst (λ u. Taken u w.control r.build) e w.taken) in
+        (by_tokens (e ∙ ap (λ u. tokens_of (spelling s.geometry) ++ u) none ∙ append-nil _), sym (ends_at more q p none h))
+
+-- Where the reader stops before the end, nothing is read.
+pub stopped_unread : (scale : ℕ) (bytes : List ℕ) (from place : ℕ) (c : Control) (b : Build) (kind : WktKind) → SoFar scale bytes from place c b → (c.step ≡ Done → ⊥) →
+    IsFaulty c b (lexeme_at scale bytes place).token kind → (figure : Figure) (last : ℕ) → Reads scale bytes from figure last → ⊥
+stopped_unread scale bytes from place c b kind s not_done faulty figure last r =
+    go (stands_compare scale bytes s.tokens (tokens_of (spelling r.geometry)) from place last s.stands r.stands)
+  where
+    w : Whole (tokens_of (spelling r.geometry)) r.build
+    w = reads_whole scale bytes from figure last r
+
+    same_tokens : tokens_of (spelling r.geometry) ≡ s.tokens → ⊥
+    same_tokens e = not_done (ap (λ (u : Control). u.step) (sym (taken_same s.tokens w.control c r.build b (subst (λ u. Taken u w.control r.build) e w.taken) s.taken).0) ∙ w.done)
+
+    goes_on : (more : List Token) → tokens_of (spelling r.geometry) ≡ s.tokens ++ more → Stands scale bytes place more last → ⊥
+    goes_on [] e h = same_tokens (e ∙ append-nil s.tokens)
+    goes_on (t ∷ more) e (f, h) =
+        faulty_wrong s.tokens c b _ kind s.taken faulty
+        (subst (λ u. IsRight (s.tokens ++ u ∷ [])) (sym f) (right_front s.tokens more t (subst IsRight e (taken_right _ w.control r.build w.taken))))
+
+    go : ((more : List Token) × (tokens_of (spelling r.geometry) ≡ s.tokens ++ more) × Stands scale bytes place more last)
+        ⊎ ((more : List Token) × (s.tokens ≡ tokens_of (spelling r.geometry) ++ more) × Stands scale bytes last more place) → ⊥
+    go (inl (more, e, h)) = goes_on more e h
+    go (inr (more, e, h)) =
+        let none = whole_ends _ more r.build b c w (subst (λ u. Taken u c b) e s.taken) in
+        same_tokens (sym (e ∙ ap (λ u. tokens_of (spelling r.geometry) ++ u) none ∙ append-nil _))
+
+pub so_far_fault : (scale : ℕ) (bytes : List ℕ) (from place : ℕ) (c : Control) (b : Build) (kind : WktKind) (start_place : ℕ) →
+    (IsOnlyWhite bytes from → ⊥) → (c.step ≡ Done → ⊥) → SoFar scale bytes from place c b →
+    IsFaulty c b (lexeme_at scale bytes place).token kind → start_place ≡ (lexeme_at scale bytes place).start → FirstFault scale bytes from kind start_place
+so_far_fault scale bytes from place c b kind start_place some not_done s f e = record {
+  some = some;
+  unread = stopped_unread scale bytes from place c b kind s not_done f;
+  before = s.tokens;
+  after = place;
+  stands = s.stands;
+  right = taken_right s.tokens c b s.taken;
+  wrong = faulty_wrong s.tokens c b _ kind s.taken f;
+  kind_is = faulty_has_kind s.tokens c b _ kind s.taken f;
+  place_is = e;
+}
+
+pub so_far_stop : (scale : ℕ) (bytes : List ℕ) (from place : ℕ) (c : Control) (b : Build) (e : WktFault) →
+    (IsOnlyWhite bytes from → ⊥) → (c.step ≡ Done → ⊥) → SoFar scale bytes from place c b →
+    FailsAt e (lexeme_at scale bytes place).start c b (lexeme_at scale bytes place).token → IsFirstFault e scale bytes from
+so_far_stop scale bytes from place c b (fault.Bad kind at_place) some not_done s (e, f) = so_far_fault scale bytes from place c b kind at_place some not_done s f e
+so_far_stop scale bytes from place c b fault.NoMemory some not_done s h = tt
+
+pub not_done_from : (step : Step) → is_done step ≡ false → step ≡ Done → ⊥
+not_done_from Done e f = absurd (cc)
+not_done_from other e f = absurd (cc)
+
+pub done_from : (step : Step) → is_done step ≡ true → step ≡ Done
+done_from Done e = refl
+done_from other e = absurd (cc)

@@ -1,0 +1,359 @@
+-- What tokens build is well shaped.
+use Rattle.std.proofs.Common.{◌≡◌, ℕ, ◌+◌, ◌-◌, ◌<◌, ◌≤◌, ℤ, pos, negsuc, ◌≤ℤ◌, nat_lt, cond, ◌&&◌, Bool, true, false, Option, Some, None, Result, Ok, Err, List, [], ◌∷◌, ◌++◌, length, get_or, drop, take_while, codes, ◌==◌, sum_by, refl, sym, ap, subst, ◌∙◌, arith}
+use Rattle.std.specs.List.{All}
+use Rattle.std.specs.Ordering.{int_eq}
+use Rattle.std.proofs.lemmas.Int.{ints}
+use Rattle.std.proofs.lemmas.Bool.{false≢true, ltb-true, ltb-false}
+use Rattle.std.proofs.lemmas.Bool.Decides.{Decides-int_eq}
+use Rattle.std.proofs.lemmas.Option.{slice_get-get_or}
+use Rattle.std.proofs.lemmas.List.Sums.{fold-append}
+use Rattle.std.proofs.lemmas.List.{length_push}
+use Rattle.std.proofs.lemmas.List.Elements.{All-nil, All-push}
+use Rattle.plane_exact.specs.Places.{IsInLimit}
+use Rattle.plane_exact.specs.declared.point.Pt.{Pt}
+use Rattle.point_set.specs.declared.figure.Area.{Area}
+use Rattle.point_set.specs.declared.figure.Figure.{Figure}
+use Rattle.point_set.specs.Shape.{IsWayInLimit, IsLineShaped, IsClosed, IsRingShaped, IsAreaShaped, positions_of_area, positions_of, IsWellShaped}
+use Rattle.wkt_text.specs.declared.number.Numeral.{Numeral}
+use Rattle.wkt_text.specs.declared.number.Numeral.TheVariants.{Long, Malformed, Fraction, Wide, Whole}
+use Rattle.wkt_text.specs.declared.token.Token.{Token}
+use Rattle.wkt_text.specs.declared.token.Token.TheVariants as token
+use Rattle.wkt_text.specs.declared.control.Role.{Role}
+use Rattle.wkt_text.specs.declared.control.Role.TheVariants as role
+use Rattle.wkt_text.specs.declared.control.WktKind.{WktKind}
+use Rattle.wkt_text.specs.declared.control.WktKind.TheVariants.{RingShort, RingOpen}
+use Rattle.wkt_text.specs.declared.word.TypeWord.{TypeWord}
+use Rattle.wkt_text.specs.declared.word.Tag.{Tag}
+use Rattle.wkt_text.specs.Bytes.{is_numeric}
+use Rattle.wkt_text.specs.Words.{tag_of, type_of}
+use Rattle.wkt_text.specs.Numbers.{signed, size_of, ratio_of, is_minus, is_formed, numeral_of}
+use Rattle.wkt_text.specs.Numbers as numbers
+use Rattle.wkt_text.specs.Tokens.{tag_token, type_token, is_name, word_token, word_in, number_in, is_number_start, mark, token_in, place_of, lexeme_at}
+use Rattle.wkt_text.specs.Grammar.{Slot, spelling}
+use Rattle.wkt_text.specs.Faults.{Stands, tokens_of, builds, Reads}
+use Rattle.std.specs.Char.{is_ascii_alphabetic}
+use Rattle.wkt_text.specs.declared.build.Build.{Build}
+use Rattle.wkt_text.specs.Rules.{◌>>=◌, place_value, drop_fault, same_place, ends_meet, ring_fault, unless, with_x, with_point, with_position, with_area, act, act_by, start_build}
+
+-- A coordinate is within the limit.
+abbrev IsNear : ℤ → Type 0
+IsNear z = (negsuc 1048574 ≤ℤ z) × (z ≤ℤ pos 1048575)
+
+abbrev pub IsNumeralNear : Numeral → Type 0
+IsNumeralNear (Whole z) = IsNear z
+IsNumeralNear other = Unit {0}
+
+-- A number among tokens has a value within the limit, if any.
+abbrev pub IsTokenNear : Token → Type 0
+IsTokenNear (token.Number n) = IsNumeralNear n
+IsTokenNear other = Unit {0}
+
+abbrev IsXNear : Option ℤ → Type 0
+IsXNear None = Unit {0}
+IsXNear (Some z) = IsNear z
+
+abbrev IsShellShaped : Option (List Pt) → Type 0
+IsShellShaped None = Unit {0}
+IsShellShaped (Some ring) = IsRingShaped ring
+
+-- A position that is begun, and a shell that is whole.
+abbrev begun : Option ℤ → ℕ
+begun None = 0
+begun (Some z) = 1
+
+abbrev shell_length : Option (List Pt) → ℕ
+shell_length None = 0
+shell_length (Some ring) = length ring
+
+pub record IsBuilt (b : Build) : Type 0 where
+  points : IsWayInLimit b.figure.points
+  lines : All IsLineShaped b.figure.lines
+  areas : All IsAreaShaped b.figure.areas
+  way : IsWayInLimit b.way
+  shell : IsShellShaped b.shell
+  holes : All IsRingShaped b.holes
+  x : IsXNear b.x
+  few : (((positions_of b.figure + length b.way) + shell_length b.shell) + sum_by length b.holes) + begun b.x ≤ b.count
+  most : b.count ≤ 1048576
+
+abbrev Good : Result Build WktKind → Type 0
+Good (Ok b) = IsBuilt b
+Good (Err k) = Unit {0}
+
+good_if : (c : Bool) (x y : Result Build WktKind) → (c ≡ true → Good x) → (c ≡ false → Good y) → Good (cond c x y)
+good_if true x y f g = f refl
+good_if false x y f g = g refl
+
+good_value : (t : Token) (f : ℤ → Result Build WktKind) → IsTokenNear t → ((z : ℤ) → IsNear z → Good (f z)) → Good (place_value t >>= f)
+good_value (token.Number Long) f n h = tt
+good_value (token.Number Malformed) f n h = tt
+good_value (token.Number Fraction) f n h = tt
+good_value (token.Number Wide) f n h = tt
+good_value (token.Number (Whole z)) f n h = h z n
+good_value other f n h = tt
+
+good_unless : (o : Option WktKind) (b : Build) → (o ≡ None → IsBuilt b) → Good (unless o b)
+good_unless None b h = h refl
+good_unless (Some k) b h = tt
+
+sum_by-push : {X : Type 0} (f : X → ℕ) (xs : List X) (x : X) → sum_by f (xs ++ x ∷ []) ≡ sum_by f xs + f x
+sum_by-push f xs x = fold-append (λ a y. a + f y) 0 xs (x ∷ [])
+
+near_point : (x y : ℤ) → IsNear x → IsNear y → IsInLimit (record { x = x; y = y })
+near_point x y a b = record { left = a.0; right = a.1; bottom = b.0; top = b.1 }
+
+pub built_start : IsBuilt start_build
+built_start = record {
+  points = All-nil IsInLimit;
+  lines = All-nil IsLineShaped;
+  areas = All-nil IsAreaShaped;
+  way = All-nil IsInLimit;
+  shell = tt;
+  holes = All-nil IsRingShaped;
+  x = tt;
+  few = omega arith;
+  most = omega arith;
+}
+
+good_x : (b : Build) (z : ℤ) → IsBuilt b → IsNear z → b.count < 1048576 → IsBuilt (with_x b z)
+good_x b z h n c = record {
+  points = h.points;
+  lines = h.lines;
+  areas = h.areas;
+  way = h.way;
+  shell = h.shell;
+  holes = h.holes;
+  x = n;
+  few = omega (arith, h.few);
+  most = omega arith;
+}
+
+good_point : (b : Build) (o : Option ℤ) (z : ℤ) → b.x ≡ o → IsBuilt b → IsNear z → IsBuilt (with_point b o z)
+good_point b None z e h n = h
+good_point b (Some x) z e h n =
+    let near : IsNear x = subst IsXNear e h.x in
+    let few = subst (λ o. (((positions_of b.figure + length b.way) + shell_length b.shell) + sum_by length b.holes) + begun o ≤ b.count) e h.few in
+    record {
+      points = All-push IsInLimit b.figure.points _ h.points (near_point x z near n);
+      lines = h.lines;
+      areas = h.areas;
+      way = h.way;
+      shell = h.shell;
+      holes = h.holes;
+      x = tt;
+      few = rw (length_push b.figure.points (record { x = x; y = z })) (omega (arith, few));
+      most = h.most;
+    }
+
+good_position : (b : Build) (o : Option ℤ) (z : ℤ) → b.x ≡ o → IsBuilt b → IsNear z → IsBuilt (with_position b o z)
+good_position b None z e h n = h
+good_position b (Some x) z e h n =
+    let near : IsNear x = subst IsXNear e h.x in
+    let few = subst (λ o. (((positions_of b.figure + length b.way) + shell_length b.shell) + sum_by length b.holes) + begun o ≤ b.count) e h.few in
+    record {
+      points = h.points;
+      lines = h.lines;
+      areas = h.areas;
+      way = All-push IsInLimit b.way _ h.way (near_point x z near n);
+      shell = h.shell;
+      holes = h.holes;
+      x = tt;
+      few = rw (length_push b.way (record { x = x; y = z })) (omega (arith, few));
+      most = h.most;
+    }
+
+ends_meet_closed : (way : List Pt) → ends_meet way ≡ true → IsClosed way
+ends_meet_closed [] e = refl
+ends_meet_closed (p ∷ way) e =
+    ap Some (same_from p (get_or (p ∷ way) (length (p ∷ way) - 1) p) e)
+    ∙ sym (slice_get-get_or (p ∷ way) (length (p ∷ way) - 1) p (omega arith))
+  where
+    and_parts : (a b : Bool) → (a && b) ≡ true → (a ≡ true) × (b ≡ true)
+    and_parts true b h = (refl, h)
+    and_parts false b h = absurd (false≢true h)
+
+    same_from : (p q : Pt) → same_place p q ≡ true → p ≡ q
+    same_from p q h =
+        let (xs, ys) = and_parts (int_eq p.x q.x) (int_eq p.y q.y) h in
+        let ex : p.x ≡ q.x = (Decides-int_eq p.x q.x).0 xs in
+        let ey : p.y ≡ q.y = (Decides-int_eq p.y q.y).0 ys in
+        λ i. record { x = ex i; y = ey i }
+
+ring_tests : (short meet : Bool) → cond short (Some RingShort) (cond meet None (Some RingOpen)) ≡ None → (short ≡ false) × (meet ≡ true)
+ring_tests true meet e = absurd (cc)
+ring_tests false true e = (refl, refl)
+ring_tests false false e = absurd (cc)
+
+ring_shaped : (way : List Pt) → IsWayInLimit way → ring_fault way ≡ None → IsRingShaped way
+ring_shaped way near e =
+    let (long, meet) = ring_tests (nat_lt (length way) 4) (ends_meet way) e in
+    record { within = near; long = ltb-false (length way) 4 long; closed = ends_meet_closed way meet }
+
+good_line : (b : Build) → IsBuilt b → Good (act_by b role.EndLine token.Close)
+good_line b h = good_if (nat_lt (length b.way) 2) _ _ (λ e. tt) (λ e. record {
+  points = h.points;
+  lines = All-push IsLineShaped b.figure.lines b.way h.lines (record { within = h.way; long = ltb-false (length b.way) 2 e });
+  areas = h.areas;
+  way = All-nil IsInLimit;
+  shell = h.shell;
+  holes = h.holes;
+  x = h.x;
+  few = rw (sum_by-push length b.figure.lines b.way) (omega (arith, h.few));
+  most = h.most;
+})
+
+good_shell : (b : Build) → IsBuilt b → Good (act_by b role.EndShell token.Close)
+good_shell b h = good_unless (ring_fault b.way) _ (λ e. record {
+  points = h.points;
+  lines = h.lines;
+  areas = h.areas;
+  way = All-nil IsInLimit;
+  shell = ring_shaped b.way h.way e;
+  holes = h.holes;
+  x = h.x;
+  few = omega (arith, h.few);
+  most = h.most;
+})
+
+good_hole : (b : Build) → IsBuilt b → Good (act_by b role.EndHole token.Close)
+good_hole b h = good_unless (ring_fault b.way) _ (λ e. record {
+  points = h.points;
+  lines = h.lines;
+  areas = h.areas;
+  way = All-nil IsInLimit;
+  shell = h.shell;
+  holes = All-push IsRingShaped b.holes b.way h.holes (ring_shaped b.way h.way e);
+  x = h.x;
+  few = rw (sum_by-push length b.holes b.way) (omega (arith, h.few));
+  most = h.most;
+})
+
+good_area : (b : Build) (o : Option (List Pt)) → b.shell ≡ o → IsBuilt b → IsBuilt (with_area b o)
+good_area b None e h = h
+good_area b (Some ring) e h =
+    let shaped : IsRingShaped ring = subst IsShellShaped e h.shell in
+    let few = subst (λ o. (((positions_of b.figure + length b.way) + shell_length o) + sum_by length b.holes) + begun b.x ≤ b.count) e h.few in
+    let more : Area = record { shell = ring; holes = b.holes; group = b.group } in
+    record {
+      points = h.points;
+      lines = h.lines;
+      areas = All-push IsAreaShaped b.figure.areas more h.areas (record { shell = shaped; holes = h.holes });
+      way = h.way;
+      shell = tt;
+      holes = All-nil IsRingShaped;
+      x = h.x;
+      few = rw (sum_by-push positions_of_area b.figure.areas more) (omega (arith, few));
+      most = h.most;
+    }
+
+same_built : (b : Build) → IsBuilt b → Good (act_by b role.Group token.Open)
+same_built b h = record {
+  points = h.points;
+  lines = h.lines;
+  areas = h.areas;
+  way = h.way;
+  shell = h.shell;
+  holes = h.holes;
+  x = h.x;
+  few = h.few;
+  most = h.most;
+}
+
+-- A token whose value is within the limit keeps what is built well shaped.
+good_act : (b : Build) (r : Role) (t : Token) → IsBuilt b → IsTokenNear t → Good (act_by b r t)
+good_act b role.Head t h n = h
+good_act b role.Deep t h n = tt
+good_act b role.Mark t h n = h
+good_act b role.Group t h n = same_built b h
+good_act b role.X t h n = good_if (nat_lt b.count 1048576) _ _
+    (λ e. good_value t (λ z. Ok (with_x b z)) n (λ z m. good_x b z h m (ltb-true b.count 1048576 e))) (λ e. tt)
+good_act b role.PointY t h n = good_value t (λ z. Ok (with_point b b.x z)) n (λ z m. good_point b b.x z refl h m)
+good_act b role.WayY t h n = good_value t (λ z. Ok (with_position b b.x z)) n (λ z m. good_position b b.x z refl h m)
+good_act b role.Demanded t h n = good_unless (drop_fault t) b (λ e. h)
+good_act b role.Further t h n = good_unless (drop_fault t) b (λ e. h)
+good_act b role.EndLine t h n = good_line b h
+good_act b role.EndShell t h n = good_shell b h
+good_act b role.EndHole t h n = good_hole b h
+good_act b role.EndArea t h n = good_area b b.shell refl h
+
+-- All tokens of a list are near.
+abbrev pub AreNear : List Token → Type 0
+AreNear [] = Unit {0}
+AreNear (t ∷ ts) = IsTokenNear t × AreNear ts
+
+good_then : (r : Result Build WktKind) (f : Build → Result Build WktKind) (d : Build) → Good r → (r >>= f) ≡ Ok d → (b : Build) × IsBuilt b × (f b ≡ Ok d)
+good_then (Ok b) f d g e = (b, g, e)
+good_then (Err k) f d g e = absurd (cc)
+
+built_all : (slots : List Slot) (b d : Build) → IsBuilt b → AreNear (tokens_of slots) → builds b slots ≡ Ok d → IsBuilt d
+unfolding act
+built_all [] b d h n e = subst IsBuilt (ok_same e) h
+  where
+    ok_same : {a b : Build} → ◌≡◌ {A = Result Build WktKind} (Ok a) (Ok b) → a ≡ b
+    ok_same e = cc
+built_all (x ∷ rest) b d h (n, ns) e =
+    let (c, k, f) = good_then (act_by b x.1 x.0) (λ c. builds c rest) d (good_act b x.1 x.0 h n) e in
+    built_all rest c d k ns f
+
+built_shaped : (b : Build) → IsBuilt b → IsWellShaped b.figure
+built_shaped b h = record { points = h.points; lines = h.lines; areas = h.areas; few = omega (arith, h.few, h.most) }
+
+-- ---- the values of tokens
+
+near_if : (c : Bool) (s t : Token) → IsTokenNear s → IsTokenNear t → IsTokenNear (cond c s t)
+near_if true s t h k = h
+near_if false s t h k = k
+
+tag_near : (o : Option Tag) → IsTokenNear (tag_token o)
+tag_near None = tt
+tag_near (Some t) = tt
+
+type_near : (o : Option (TypeWord × Tag)) (p : Option Tag) → IsTokenNear (type_token o p)
+type_near None p = tag_near p
+type_near (Some r) p = tt
+
+signed_near : (minus : Bool) (n : ℕ) → n ≤ 1048575 → IsNear (signed minus n)
+signed_near true n h = (omega (arith, ints), omega (arith, ints))
+signed_near false n h = (omega (arith, ints), omega (arith, ints))
+
+numeral_if : (c : Bool) (s t : Numeral) → (c ≡ true → IsNumeralNear s) → (c ≡ false → IsNumeralNear t) → IsNumeralNear (cond c s t)
+numeral_if true s t h k = h refl
+numeral_if false s t h k = k refl
+
+numeral_near : (scale : ℕ) (text : List ℕ) → IsNumeralNear (numeral_of scale text)
+numeral_near scale text =
+    numeral_if (nat_lt 64 (length text)) _ _ (λ e. tt) (λ e.
+    numeral_if (is_formed text) _ _ (λ f.
+    numeral_if (numbers.is_whole (ratio_of text scale)) _ _ (λ w.
+    numeral_if (nat_lt 1048575 (size_of (ratio_of text scale))) _ _ (λ u. tt)
+    (λ u. signed_near (is_minus text) (size_of (ratio_of text scale)) (ltb-false 1048575 _ u)))
+    (λ w. tt))
+    (λ f. tt))
+
+mark_near : (b : ℕ) → IsTokenNear (mark b)
+mark_near b = near_if (b == 40) _ _ tt (near_if (b == 41) _ _ tt (near_if (b == 44) _ _ tt tt))
+
+pair_if : (c : Bool) (s t : Token × ℕ) → IsTokenNear s.0 → IsTokenNear t.0 → IsTokenNear (cond c s t).0
+pair_if true s t h k = h
+pair_if false s t h k = k
+
+token_near : (scale : ℕ) (text : List ℕ) → IsTokenNear (token_in scale text).0
+token_near scale [] = tt
+token_near scale (b ∷ rest) =
+    pair_if (is_ascii_alphabetic b) (word_in (b ∷ rest)) _ (word_near (take_while is_ascii_alphabetic (b ∷ rest)))
+    (pair_if (is_number_start b) (number_in scale (b ∷ rest)) (mark b, 1) (numeral_near scale (take_while is_numeric (b ∷ rest))) (mark_near b))
+  where
+    word_near : (word : List ℕ) → IsTokenNear (word_token word)
+    word_near word = near_if (is_name word (codes "EMPTY")) _ _ tt (near_if (is_name word (codes "NAN")) _ _ tt (type_near (type_of word) (tag_of word)))
+
+stands_near : (scale : ℕ) (bytes : List ℕ) (ts : List Token) (from last : ℕ) → Stands scale bytes from ts last → AreNear ts
+unfolding lexeme_at
+stands_near scale bytes [] from last h = tt
+stands_near scale bytes (t ∷ ts) from last (e, h) =
+    (subst IsTokenNear e (token_near scale (drop (place_of bytes from) bytes)), stands_near scale bytes ts _ last h)
+
+-- The figure that a text says is well shaped.
+pub reads_shaped : (scale : ℕ) (bytes : List ℕ) (from : ℕ) (figure : Figure) (last : ℕ) → Reads scale bytes from figure last → IsWellShaped figure
+reads_shaped scale bytes from figure last r =
+    subst IsWellShaped (sym r.says) (built_shaped r.build (built_all (spelling r.geometry) start_build r.build built_start
+    (stands_near scale bytes (tokens_of (spelling r.geometry)) from last r.stands) r.kept))

@@ -1,0 +1,10 @@
+pub mod Bytes
+pub mod Faults
+pub mod Grammar
+pub mod Machine
+pub mod Numbers
+pub mod Reading
+pub mod Results
+pub mod Rules
+pub mod Tokens
+pub mod Words
