@@ -1,0 +1,10 @@
+pub mod PointMatrix
+pub mod Tabulated
+pub mod Fronts
+pub mod PointText
+pub mod Words
+pub mod SourceSteps
+pub mod LineOne
+pub mod PointTexts
+pub mod OneAnswer
+pub mod Exactness

@@ -1,0 +1,9 @@
+pub mod Points
+pub mod Statuses
+pub mod Offered
+pub mod Text
+pub mod Sides
+pub mod Command
+pub mod Sources
+pub mod Run
+pub mod Steps

@@ -1,0 +1,71 @@
+-- Statuses: their codes and their fault lines.
+use Rattle.std.specs.Prelude.{ℕ, List, [], ◌∷◌, codes, decimal}
+use Rattle.std.specs.List.{concat}
+use Rattle.im_matrix.specs.declared.Which.{Which}
+use Rattle.im_matrix.specs.declared.Which.TheVariants.{A, B}
+use Rattle.wkt_text.specs.declared.control.WktKind.{WktKind}
+use Rattle.wkt_text.specs.declared.control.WktKind.TheVariants.{Syntax, UnknownType, NotWhole, TooWide, LongNumber, Ragged, RingOpen, RingShort, LineShort, Deep, TooMany}
+use Rattle.geosop_run.specs.declared.config.UsageFault.{UsageFault}
+use Rattle.geosop_run.specs.declared.config.UsageFault.TheVariants as usage
+use Rattle.geosop_run.specs.declared.status.Refusal.{Refusal}
+use Rattle.geosop_run.specs.declared.status.Refusal.TheVariants as refusal
+use Rattle.geosop_run.specs.declared.status.Status.{Status}
+use Rattle.geosop_run.specs.declared.status.Status.TheVariants as status
+
+-- The exit status of each status.
+abbrev pub code_of : Status → ℕ
+code_of status.Ok = 0
+code_of (status.Usage fault) = 1
+code_of (status.Refused refusal) = 2
+code_of status.ReadFault = 3
+code_of status.WriteFault = 4
+code_of status.NoMemory = 5
+
+-- The letter of a side.
+abbrev pub side_name : Which → List ℕ
+side_name A = codes "A"
+side_name B = codes "B"
+
+-- The name of a text's fault.
+abbrev pub kind_name : WktKind → List ℕ
+kind_name Syntax = codes "Syntax"
+kind_name UnknownType = codes "UnknownType"
+kind_name NotWhole = codes "NotWhole"
+kind_name TooWide = codes "TooWide"
+kind_name LongNumber = codes "LongNumber"
+kind_name Ragged = codes "Ragged"
+kind_name RingOpen = codes "RingOpen"
+kind_name RingShort = codes "RingShort"
+kind_name LineShort = codes "LineShort"
+kind_name Deep = codes "Deep"
+kind_name TooMany = codes "TooMany"
+
+-- The name of a usage fault.
+abbrev pub usage_name : UsageFault → List ℕ
+usage_name usage.Line = codes "Line"
+usage_name usage.Sources = codes "Sources"
+
+-- A line feed.
+abbrev pub line_feed : List ℕ
+line_feed = 10 ∷ []
+
+-- The fault line of a refusal, piece by piece.
+abbrev pub refusal_pieces : Refusal → List (List ℕ)
+refusal_pieces (refusal.TooLong side) = codes "geosop: " ∷ side_name side ∷ codes ": TooLong" ∷ line_feed ∷ []
+refusal_pieces (refusal.Text side number kind place) =
+    codes "geosop: " ∷ side_name side ∷ codes " " ∷ decimal number ∷ codes ": " ∷ kind_name kind ∷ codes " at " ∷ decimal place ∷ line_feed ∷ []
+refusal_pieces (refusal.Unbuilt side number) =
+    codes "geosop: " ∷ side_name side ∷ codes " " ∷ decimal number ∷ codes ": Unbuilt" ∷ line_feed ∷ []
+
+-- The fault line of a status, piece by piece; Ok has none.
+abbrev pub fault_pieces : Status → List (List ℕ)
+fault_pieces status.Ok = []
+fault_pieces (status.Usage fault) = codes "geosop: usage fault: " ∷ usage_name fault ∷ line_feed ∷ []
+fault_pieces (status.Refused refusal) = refusal_pieces refusal
+fault_pieces status.ReadFault = codes "geosop: read fault" ∷ line_feed ∷ []
+fault_pieces status.WriteFault = codes "geosop: write fault" ∷ line_feed ∷ []
+fault_pieces status.NoMemory = codes "geosop: no memory" ∷ line_feed ∷ []
+
+-- The fault line of a status.
+abbrev pub fault_line : Status → List ℕ
+fault_line ended = concat (fault_pieces ended)

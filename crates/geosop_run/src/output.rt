@@ -1,0 +1,123 @@
+ghost use Rattle.std.specs.Prelude.{◌≡◌, flat_map};
+ghost use Rattle.std.specs.List.{concat};
+ghost use Rattle.geosop_run.specs.Offered.{IsOffered};
+ghost use Rattle.geosop_run.specs.Statuses.{side_name as side_bytes, kind_name as kind_bytes, usage_name as usage_bytes, refusal_pieces, fault_line};
+
+use crate::config::UsageFault;
+use crate::status::{Refusal, Status};
+use geosop_io::{Failed, Sink, offer_whole};
+use im_matrix::Which;
+use itoa::Buffer;
+use wkt_text::WktKind;
+
+/// Offers several pieces one after the other, until one isn't taken.
+fn offer_pieces<O: Sink>(out: &mut O, pieces: &[&[u8]]) -> Result<(), Failed>
+    ensures offered { IsOffered result (O.taken out.old) (O.taken out.new) (O.faults out.old) (O.faults out.new) (flat_map (λ x. x.now) pieces.now) }
+{
+    for piece in pieces {
+        offer_whole(out, piece)?;
+    }
+    Ok(())
+}
+
+/// The letter of a side.
+fn side_name(side: Which) -> &'static [u8]
+    ensures name { result.now ≡ side_bytes side }
+{
+    match side {
+        Which::A => b"A",
+        Which::B => b"B",
+    }
+}
+
+/// The name of a text's fault.
+fn kind_name(kind: WktKind) -> &'static [u8]
+    ensures name { result.now ≡ kind_bytes kind }
+{
+    match kind {
+        WktKind::Syntax => b"Syntax",
+        WktKind::UnknownType => b"UnknownType",
+        WktKind::NotWhole => b"NotWhole",
+        WktKind::TooWide => b"TooWide",
+        WktKind::LongNumber => b"LongNumber",
+        WktKind::Ragged => b"Ragged",
+        WktKind::RingOpen => b"RingOpen",
+        WktKind::RingShort => b"RingShort",
+        WktKind::LineShort => b"LineShort",
+        WktKind::Deep => b"Deep",
+        WktKind::TooMany => b"TooMany",
+    }
+}
+
+/// The name of a usage fault.
+fn usage_name(fault: UsageFault) -> &'static [u8]
+    ensures name { result.now ≡ usage_bytes fault }
+{
+    match fault {
+        UsageFault::Line => b"Line",
+        UsageFault::Sources => b"Sources",
+    }
+}
+
+fn offer_refusal<E: Sink>(err: &mut E, refusal: Refusal) -> Result<(), Failed>
+    ensures offered { IsOffered result (E.taken err.old) (E.taken err.new) (E.faults err.old) (E.faults err.new) (concat (refusal_pieces refusal)) }
+{
+    let mut number_buffer = Buffer::new();
+    let mut place_buffer = Buffer::new();
+    match refusal {
+        Refusal::TooLong(side) => offer_pieces(
+            err,
+            &[b"geosop: ", side_name(side), b": TooLong", b"\n"],
+        ),
+        Refusal::Text(side, number, kind, place) => {
+            let number = number_buffer.format(number).as_bytes();
+            let place = place_buffer.format(place).as_bytes();
+            let kind = kind_name(kind);
+            offer_pieces(
+                err,
+                &[
+                    b"geosop: ",
+                    side_name(side),
+                    b" ",
+                    number,
+                    b": ",
+                    kind,
+                    b" at ",
+                    place,
+                    b"\n",
+                ],
+            )
+        }
+        Refusal::Unbuilt(side, number) => {
+            let number = number_buffer.format(number).as_bytes();
+            offer_pieces(
+                err,
+                &[
+                    b"geosop: ",
+                    side_name(side),
+                    b" ",
+                    number,
+                    b": Unbuilt",
+                    b"\n",
+                ],
+            )
+        }
+    }
+}
+
+/// Tries the fault line of a status; Ok has none. A failure changes nothing else. Takes no memory.
+pub(crate) fn offer_fault_line<E: Sink>(err: &mut E, status: Status) -> Result<(), Failed>
+    ensures offered { IsOffered result (E.taken err.old) (E.taken err.new) (E.faults err.old) (E.faults err.new) (fault_line status) }
+{
+    match status {
+        Status::Ok => Ok(()),
+        Status::Usage(fault) => offer_pieces(
+            err,
+            &[b"geosop: usage fault: ", usage_name(fault), b"\n"],
+        ),
+        Status::Refused(refusal) => offer_refusal(err, refusal),
+        Status::ReadFault => offer_pieces(err, &[b"geosop: read fault", b"\n"]),
+        Status::WriteFault => offer_pieces(err, &[b"geosop: write fault", b"\n"]),
+        Status::NoMemory => offer_pieces(err, &[b"geosop: no memory", b"\n"]),
+    }
+}
