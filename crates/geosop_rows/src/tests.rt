@@ -1,0 +1,203 @@
+use geosop_io::{MemInputs, MemSink, NamedBytes};
+use geosop_run::{Free, Refusal, Status, UsageFault, run};
+use im_matrix::Which;
+use plane_exact::{NoMemory, PlaceList};
+use point_set::{EdgeRows, Valid, Valids};
+use std::alloc::{AllocError, Global};
+use std::test::*;
+use std::thread::Threads;
+use wkt_text::WktKind;
+
+// What came of a run.
+#[derive(Drop)]
+struct Outcome {
+    status: Status,
+    out: MemSink,
+    err: MemSink,
+}
+
+impl Outcome {
+    fn is(&self, status: Status, out: &str, err: &str) -> bool {
+        self.status == status
+            && self.out.bytes() == out.as_bytes()
+            && self.err.bytes() == err.as_bytes()
+    }
+}
+
+fn words_of(alloc: Global, list: &[&str]) -> Result<Vec<String>, AllocError> {
+    let mut words = Vec::new(alloc);
+    for word in list {
+        words.push((*word).to_string(alloc)?)?;
+    }
+    Ok(words)
+}
+
+fn files_of(alloc: Global) -> Result<NamedBytes, NoMemory> {
+    let mut files = NamedBytes::new(alloc);
+    files.add("two.wkt", b"POINT (0 0)\nPOINT (1 1)\n")?;
+    files.add("empty.wkt", b"")?;
+    files.add("stdin", b"POINT (1 1)")?;
+    Ok(files)
+}
+
+fn run_words<R: Threads + Sync + AllocGlobal>(rt: &R, list: &[&str]) -> Result<Outcome, NoMemory> {
+    let alloc = rt.alloc();
+    let words = words_of(alloc, list)?;
+    let mut inputs = MemInputs::new(files_of(alloc)?, PlaceList::new(alloc), 7);
+    let mut out = MemSink::new(alloc, 1000, PlaceList::new(alloc))?;
+    let mut err = MemSink::new(alloc, 1000, PlaceList::new(alloc))?;
+    let status = run(
+        rt,
+        alloc,
+        words.as_slice(),
+        &mut inputs,
+        &mut out,
+        &mut err,
+        &Free,
+    );
+    Ok(Outcome { status, out, err })
+}
+
+fn relate<R: Threads + Sync + AllocGlobal>(rt: &R, a: &str, b: &str) -> Result<Outcome, NoMemory> {
+    run_words(rt, &["geosop", "-a", a, "-b", b, "relate"])
+}
+
+fn relates<R: Threads + Sync + AllocGlobal>(
+    rt: &R,
+    a: &str,
+    b: &str,
+    lines: &str,
+) -> Result<bool, NoMemory> {
+    Ok(relate(rt, a, b)?.is(Status::Ok, lines, ""))
+}
+
+fn refuses<R: Threads + Sync + AllocGlobal>(
+    rt: &R,
+    a: &str,
+    b: &str,
+    refusal: Refusal,
+    line: &str,
+) -> Result<bool, NoMemory> {
+    Ok(relate(rt, a, b)?.is(Status::Refused(refusal), "", line))
+}
+
+#[test]
+fn pairs_of_points(rt: HostRuntime) -> Result<(), Fail> {
+    assert!(rt; relates(&rt, "POINT (0 0)", "POINT (1 1)", "FF0FFF0F2\n")?);
+    assert!(rt;
+        relates(
+            &rt,
+            "POINT (0 0)",
+            "MULTIPOINT ((0 0), (0 0))",
+            "0FFFFFFF2\n"
+        )?
+    );
+    assert!(rt; relates(&rt, "POINT EMPTY", "MULTIPOINT EMPTY", "FFFFFFFF2\n")?);
+    assert!(rt; relates(&rt, "MULTIPOINT (0 0, (1 1))", "POINT (1 1)", "0F0FFFFF2\n")?);
+    assert!(rt;
+        relates(
+            &rt,
+            "POINT (1048575.0 0)",
+            "POINT (1.048575e6 -0)",
+            "0FFFFFFF2\n"
+        )?
+    );
+    assert!(rt;
+        relates(
+            &rt,
+            "POINT Z (1 2 3)",
+            "multipoint (1 2, (1 2 NaN), EMPTY)",
+            "0FFFFFFF2\n"
+        )?
+    );
+    Ok(())
+}
+
+#[test]
+fn sources_by_name(rt: HostRuntime) -> Result<(), Fail> {
+    assert!(rt; relates(&rt, "two.wkt", "POINT (1 1)", "FF0FFF0F2\n0FFFFFFF2\n")?);
+    assert!(rt; relates(&rt, "two.wkt", "stdin", "FF0FFF0F2\n0FFFFFFF2\n")?);
+    assert!(rt; relates(&rt, "empty.wkt", "POINT (0 0)", "")?);
+    assert!(rt;
+        relate(&rt, "missing.wkt", "POINT (0 0)")?.is(Status::ReadFault, "", "geosop: read fault\n")
+    );
+    Ok(())
+}
+
+#[test]
+fn first_refusals(rt: HostRuntime) -> Result<(), Fail> {
+    let unbuilt = Refusal::Unbuilt(Which::B, 2);
+    assert!(rt;
+        refuses(
+            &rt,
+            "POINT (0 0)",
+            "POINT (1 1) LINESTRING EMPTY",
+            unbuilt,
+            "geosop: B 2: Unbuilt\n"
+        )?
+    );
+    let unknown = Refusal::Text(Which::A, 2, WktKind::UnknownType, 12);
+    assert!(rt;
+        refuses(
+            &rt,
+            "POINT (0 0) x",
+            "POINT (",
+            unknown,
+            "geosop: A 2: UnknownType at 12\n"
+        )?
+    );
+    let wide = Refusal::Text(Which::A, 1, WktKind::TooWide, 7);
+    assert!(rt;
+        refuses(
+            &rt,
+            "POINT (1048576 0)",
+            "POINT (0 0)",
+            wide,
+            "geosop: A 1: TooWide at 7\n"
+        )?
+    );
+    let fraction = Refusal::Text(Which::A, 1, WktKind::NotWhole, 7);
+    assert!(rt;
+        refuses(
+            &rt,
+            "POINT (1.5 0)",
+            "POINT (0 0)",
+            fraction,
+            "geosop: A 1: NotWhole at 7\n"
+        )?
+    );
+    Ok(())
+}
+
+#[test]
+fn usage_faults(rt: HostRuntime) -> Result<(), Fail> {
+    let twice = relate(&rt, "stdin", "stdin")?;
+    assert!(rt;
+        twice.is(
+            Status::Usage(UsageFault::Sources),
+            "",
+            "geosop: usage fault: Sources\n"
+        )
+    );
+    assert_eq!(rt; twice.status.code(), 1);
+    let none = run_words(&rt, &["geosop", "--help"])?;
+    assert!(rt;
+        none.is(
+            Status::Usage(UsageFault::Line),
+            "",
+            "geosop: usage fault: Line\n"
+        )
+    );
+    Ok(())
+}
+
+fn can_be_shared<T: Send + Sync>() -> bool {
+    true
+}
+
+#[test]
+fn figures_can_be_shared_by_threads(rt: HostRuntime) {
+    assert!(rt; can_be_shared::<Valid>());
+    assert!(rt; can_be_shared::<Valids>());
+    assert!(rt; can_be_shared::<EdgeRows>());
+}
