@@ -1,5 +1,4 @@
 use geosop_io::Word;
-use plane_exact::NoMemory;
 
 /// Where a side's text comes from.
 #[derive(Debug, Drop)]
@@ -37,10 +36,4 @@ pub enum LineFault {
     Usage(UsageFault),
     /// Want of memory.
     NoMemory,
-}
-
-impl From<NoMemory> for LineFault {
-    fn from(_value: NoMemory) -> Self {
-        LineFault::NoMemory
-    }
 }

@@ -25,12 +25,6 @@ pub(crate) enum SideFault {
     NoMemory,
 }
 
-impl From<NoMemory> for SideFault {
-    fn from(_value: NoMemory) -> Self {
-        SideFault::NoMemory
-    }
-}
-
 /// The bytes of a text that a word is.
 fn take_text(alloc: Global, side: Which, word: &Word) -> Result<Vec<u8>, SideFault>
     ensures bytes { IfOk result (λ v. v.items ≡ word.now) }
