@@ -16,6 +16,7 @@ pub mod SidesStrip
 pub mod SidesJoint
 pub mod SidesAll
 pub mod SidesRay
+pub mod SidesAreas
 pub mod Dimensions
 pub mod FinitePoints
 pub mod SamePoint

@@ -25,7 +25,7 @@ pub use laws::{
 };
 pub use laws_germ::{law_germ_is_one_location, law_germ_is_the_same_between_edges};
 pub use laws_inside::{law_inside_flips, law_inside_stays};
-pub use laws_sides::law_inside_lies_on_one_hand;
+pub use laws_sides::{law_area_lies_on_the_hands_of_its_rings, law_inside_lies_on_one_hand};
 pub use rule::Rule;
 pub use shape::well_shaped;
 pub use target::Target;

@@ -1,3 +1,4 @@
 pub mod Rays
 pub mod Counting
 pub mod Turned
+pub mod Rows

@@ -1,7 +1,9 @@
-//! On which hand of its edges the inside of a ring lies.
+//! On which hand of its edges the inside of a ring lies, and the edges of a figure with their hands.
 #![tactic(auto)]
 
+mod edges;
 mod middle;
 mod side;
 
+pub use edges::edges_of;
 pub use side::{interior_side, orient_ring};

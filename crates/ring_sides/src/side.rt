@@ -58,7 +58,7 @@ fn side_after(first: Pt, others: &[Pt]) -> Hand
     }
 }
 
-fn is_same(a: Pt, b: Pt) -> bool
+pub(crate) fn is_same(a: Pt, b: Pt) -> bool
     ensures same { result ≡ is_same_position a b }
 {
     a.x == b.x && a.y == b.y

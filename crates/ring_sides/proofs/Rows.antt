@@ -1,0 +1,184 @@
+-- Rows of edges, one line, ring or area on, and the hands of an area's edges.
+use Rattle.std.proofs.Common.{◌≡◌, ℕ, zero, suc, ◌+◌, ◌<◌, ◌≤◌, Bool, true, false, List, [], ◌∷◌, ◌++◌, map, length, drop, get_or, ap, refl, sym, ◌∙◌, subst, arith, add-one, sum_by}
+use Rattle.std.specs.List.{All}
+use Rattle.std.proofs.Math.Seq.{drop-cons}
+use Rattle.std.proofs.lemmas.Option.{slice_get_read, get_or_from_slice_get, slice_get_within}
+use Rattle.std.proofs.lemmas.List.{append_assoc, append-nil, map-append, drop_all}
+use Rattle.std.proofs.lemmas.List.Sums.{sum_by-cons}
+use Rattle.std.proofs.lemmas.List.Elements.{All-nil, All-cons, All-head, All-tail, All-append, All-same}
+use Rattle.plane_exact.specs.declared.point.Pt.{Pt}
+use Rattle.plane_exact.specs.declared.point.Seg.{Seg}
+use Rattle.point_set.specs.declared.edge.Edge.{Edge}
+use Rattle.point_set.specs.declared.edge.Hand.{Hand}
+use Rattle.point_set.specs.declared.edge.Owner.{Owner}
+use Rattle.point_set.specs.declared.edge.Owner.TheVariants.{Line, Ring}
+use Rattle.point_set.specs.declared.figure.Area.{Area}
+use Rattle.point_set.specs.declared.figure.Figure.{Figure}
+use Rattle.point_set.specs.Edges.{OwnedEdge, owned_by, edges_of_lines, edges_of_area_rings, edges_of_areas, HasHand, IsAreaHand}
+use Rattle.point_set.specs.Location.{rings_of}
+use Rattle.point_set.specs.Rings.{is_same_position, edge_before, edges_after, edges_of}
+use Rattle.point_set.specs.Shape.{IsWellShaped, positions_of_area}
+use Rattle.point_set.specs.Sides.{IsInsideHand, other_hand}
+use Rattle.point_set.specs.Validity.{IsAtPlace, IsValid, HasTooFewPoints, CrossesItself, too_few_points, ring_cross}
+use Rattle.point_set.proofs.ParityRing.{some_same}
+use Rattle.point_set.proofs.SidesAreas.{area_shaped, area_clean, shell_hand, hole_hand}
+use Rattle.ring_sides.specs.Rows.{owned_edge, owned_edges, row_of, HasItsHand}
+
+-- ---- lists from a place on
+at_drop : {X : Type 0} (xs : List X) (i : ℕ) (x : X) → IsAtPlace xs i x → drop i xs ≡ x ∷ drop (i + 1) xs
+at_drop xs i x is =
+    drop-cons xs i x (slice_get_within xs i x is) ∙ (λ k. get_or_from_slice_get xs i x x is k ∷ drop (sym (add-one i) k) xs)
+
+pub lines_from : (lines : List (List Pt)) (i : ℕ) (line : List Pt) → IsAtPlace lines i line → edges_of_lines i (drop i lines) ≡ owned_by (Line i) (edges_of line) ++ edges_of_lines (i + 1) (drop (i + 1) lines)
+lines_from lines i line is = ap (edges_of_lines i) (at_drop lines i line is)
+
+pub rings_from : (place : ℕ) (rings : List (List Pt)) (i k : ℕ) (ring : List Pt) → IsAtPlace rings i ring → edges_of_area_rings place k (drop i rings) ≡ owned_by (Ring place k) (edges_of ring) ++ edges_of_area_rings place (k + 1) (drop (i + 1) rings)
+rings_from place rings i k ring is = ap (edges_of_area_rings place k) (at_drop rings i ring is)
+
+pub areas_from : (areas : List Area) (i : ℕ) (area : Area) → IsAtPlace areas i area → edges_of_areas i (drop i areas) ≡ edges_of_area_rings i 0 (rings_of area) ++ edges_of_areas (i + 1) (drop (i + 1) areas)
+areas_from areas i area is = ap (edges_of_areas i) (at_drop areas i area is)
+
+-- ---- rows with one owner and one hand
+owned_rows : (owner : Owner) (side : Hand) (edges : List Seg) → owned_edges (map (row_of owner side) edges) ≡ owned_by owner edges
+owned_rows owner side [] = refl
+owned_rows owner side (e ∷ edges) = ap (λ rest. record { seg = e; owner = owner } ∷ rest) (owned_rows owner side edges)
+
+-- what more rows of a way make of the edges so far and of those that are left
+pub more_rows : (first all next : List OwnedEdge) (old new : List Edge) (owner : Owner) (side : Hand) (edges : List Seg) → new ≡ old ++ map (row_of owner side) edges → first ≡ owned_edges old ++ all → all ≡ owned_by owner edges ++ next → first ≡ owned_edges new ++ next
+more_rows first all next old new owner side edges h e f =
+    e ∙ ap (λ z. owned_edges old ++ z) f ∙ sym (append_assoc (owned_edges old) (owned_by owner edges) next)
+    ∙ ap (λ z. z ++ next) (ap (λ z. owned_edges old ++ z) (sym (owned_rows owner side edges))
+    ∙ sym (map-append owned_edge old (map (row_of owner side) edges)) ∙ ap owned_edges (sym h))
+
+all_rows : (P : Edge → Type 0) (owner : Owner) (side : Hand) (edges : List Seg) → ((i : ℕ) (e : Seg) → IsAtPlace edges i e → P (row_of owner side e)) → All P (map (row_of owner side) edges)
+all_rows P owner side [] h = All-nil P
+all_rows P owner side (e ∷ edges) h =
+    All-cons P (row_of owner side e) (map (row_of owner side) edges) (h 0 e refl) (all_rows P owner side edges (λ i f is. h (suc i) f is))
+
+pub more_hands : (f : Figure) (old new : List Edge) (owner : Owner) (side : Hand) (edges : List Seg) → new ≡ old ++ map (row_of owner side) edges → All (HasItsHand f) old → ((i : ℕ) (e : Seg) → IsAtPlace edges i e → HasHand f owner e side) → All (HasItsHand f) new
+more_hands f old new owner side edges h hands good =
+    All-same (HasItsHand f) new (old ++ map (row_of owner side) edges) h
+    (All-append (HasItsHand f) old (map (row_of owner side) edges) hands (all_rows (HasItsHand f) owner side edges good))
+
+-- ---- a valid figure's rings
+pub ring_enough : (f : Figure) → IsValid f → (place : ℕ) (area : Area) → IsAtPlace f.areas place area → (k : ℕ) (ring : List Pt) → IsAtPlace (rings_of area) k ring → ¬ HasTooFewPoints ring
+ring_enough f valid place area is k ring is_ring few =
+    valid place too_few_points (record { area = area; area_is = is; is_so = record { place = k; ring = ring; ring_is = is_ring; is_so = few } })
+
+pub ring_simple : (f : Figure) → IsValid f → (place : ℕ) (area : Area) → IsAtPlace f.areas place area → (k : ℕ) (ring : List Pt) → IsAtPlace (rings_of area) k ring → ¬ CrossesItself ring
+ring_simple f valid place area is k ring is_ring crossed =
+    valid place ring_cross (record { area = area; area_is = is; is_so = record { place = k; ring = ring; ring_is = is_ring; is_so = crossed } })
+
+pub shell_has_hand : (f : Figure) → IsWellShaped f → IsValid f → (place : ℕ) (area : Area) → IsAtPlace f.areas place area → (side : Hand) → IsInsideHand area.shell side → (i : ℕ) (e : Seg) → IsAtPlace (edges_of area.shell) i e → HasHand f (Ring place 0) e side
+shell_has_hand f shaped valid place area is side inside i e is_e other is_other =
+    subst (λ a. IsAreaHand a e side) (some_same (sym is ∙ is_other)) (shell_hand area (area_clean f shaped valid place area is) side inside i e is_e)
+
+pub hole_has_hand : (f : Figure) → IsWellShaped f → IsValid f → (place : ℕ) (area : Area) → IsAtPlace f.areas place area → (k : ℕ) (hole : List Pt) → IsAtPlace area.holes k hole → (side : Hand) → IsInsideHand hole side → (i : ℕ) (e : Seg) → IsAtPlace (edges_of hole) i e → HasHand f (Ring place (k + 1)) e (other_hand side)
+hole_has_hand f shaped valid place area is k hole is_hole side inside i e is_e other is_other =
+    subst (λ a. IsAreaHand a e (other_hand side)) (some_same (sym is ∙ is_other))
+    (hole_hand area (area_clean f shaped valid place area is) k hole is_hole side inside i e is_e)
+
+-- ---- how many lines, areas and holes there are
+count_by_length : {X : Type 0} (size : X → ℕ) (xs : List X) → All (λ x. 1 ≤ size x) xs → length xs ≤ sum_by size xs
+count_by_length size [] all = omega arith
+count_by_length size (x ∷ xs) all =
+    let here : 1 ≤ size x = All-head (λ x. 1 ≤ size x) x xs all in
+    omega (arith, here, count_by_length size xs (All-tail (λ x. 1 ≤ size x) x xs all), sum_by-cons size x xs)
+
+one_of_sum : {X : Type 0} (size : X → ℕ) (xs : List X) (i : ℕ) (x : X) → IsAtPlace xs i x → size x ≤ sum_by size xs
+one_of_sum size [] i x is = cc
+one_of_sum size (y ∷ xs) zero x is = let same : size y ≡ size x = ap size (some_same is) in omega (arith, same, sum_by-cons size y xs)
+one_of_sum size (y ∷ xs) (suc i) x is = omega (arith, one_of_sum size xs i x is, sum_by-cons size y xs)
+
+pub few_lines : (f : Figure) → IsWellShaped f → length f.lines ≤ 1048576
+few_lines f shaped =
+    let few = shaped.few in
+    let lines = count_by_length length f.lines (λ i d below. let long = (shaped.lines i d below).long in omega (arith, long)) in
+    omega (arith, few, lines)
+
+pub few_areas : (f : Figure) → IsWellShaped f → length f.areas ≤ 1048576
+few_areas f shaped =
+    let few = shaped.few in
+    let areas = count_by_length positions_of_area f.areas (λ i d below. let long = (shaped.areas i d below).shell.long in omega (arith, long)) in
+    omega (arith, few, areas)
+
+pub few_holes : (f : Figure) → IsWellShaped f → (place : ℕ) (area : Area) → IsAtPlace f.areas place area → length area.holes ≤ 1048576
+few_holes f shaped place area is =
+    let few = shaped.few in
+    let own = one_of_sum positions_of_area f.areas place area is in
+    let holes = count_by_length length area.holes (λ i d below. let long = ((area_shaped f shaped place area is).holes i d below).long in omega (arith, long)) in
+    omega (arith, few, own, holes)
+
+-- ---- the rows of a way, one position on
+before_rows : (owner : Owner) (side : Hand) (same : Bool) (last p : Pt) (rest : List Seg) → map (row_of owner side) (edge_before same last p rest) ≡ map (row_of owner side) (edge_before same last p []) ++ map (row_of owner side) rest
+before_rows owner side true last p rest = refl
+before_rows owner side false last p rest = refl
+
+way_step : (first rows : List Edge) (owner : Owner) (side : Hand) (last : Pt) (others : List Pt) (i : ℕ) (d : Pt) → i < length others → first ≡ rows ++ map (row_of owner side) (edges_after last (drop i others)) → first ≡ (rows ++ map (row_of owner side) (edge_before (is_same_position last (get_or others i d)) last (get_or others i d) [])) ++ map (row_of owner side) (edges_after (get_or others i d) (drop (i + 1) others))
+way_step first rows owner side last others i d below h =
+    let p = get_or others i d in
+    let rest = edges_after p (drop (i + 1) others) in
+    h ∙ ap (λ left. rows ++ map (row_of owner side) (edges_after last left)) (drop-cons others i d below ∙ ap (λ n. p ∷ drop n others) (sym (add-one i)))
+    ∙ ap (λ z. rows ++ z) (before_rows owner side (is_same_position last p) last p rest)
+    ∙ sym (append_assoc rows (map (row_of owner side) (edge_before (is_same_position last p) last p [])) (map (row_of owner side) rest))
+
+pub way_kept : (first rows : List Edge) (owner : Owner) (side : Hand) (last : Pt) (others : List Pt) (i : ℕ) (d : Pt) → i < length others → is_same_position last (get_or others i d) ≡ true → first ≡ rows ++ map (row_of owner side) (edges_after last (drop i others)) → first ≡ rows ++ map (row_of owner side) (edges_after (get_or others i d) (drop (i + 1) others))
+way_kept first rows owner side last others i d below same h =
+    let p = get_or others i d in
+    way_step first rows owner side last others i d below h
+    ∙ ap (λ b. (rows ++ map (row_of owner side) (edge_before b last p [])) ++ map (row_of owner side) (edges_after p (drop (i + 1) others))) same
+    ∙ ap (λ z. z ++ map (row_of owner side) (edges_after p (drop (i + 1) others))) (append-nil rows)
+
+pub way_pushed : (first rows : List Edge) (owner : Owner) (side : Hand) (last : Pt) (others : List Pt) (i : ℕ) (d : Pt) → i < length others → is_same_position last (get_or others i d) ≡ false → first ≡ rows ++ map (row_of owner side) (edges_after last (drop i others)) → first ≡ (rows ++ row_of owner side (record { a = last; b = get_or others i d }) ∷ []) ++ map (row_of owner side) (edges_after (get_or others i d) (drop (i + 1) others))
+way_pushed first rows owner side last others i d below apart h =
+    let p = get_or others i d in
+    way_step first rows owner side last others i d below h
+    ∙ ap (λ b. (rows ++ map (row_of owner side) (edge_before b last p [])) ++ map (row_of owner side) (edges_after p (drop (i + 1) others))) apart
+
+-- ---- what a pass reads
+pub item_at : {X : Type 0} (items xs : List X) (i : ℕ) (x : X) → items ≡ xs → i < length items → x ≡ get_or items i x → IsAtPlace xs i x
+item_at items xs i x same below is = subst (λ ys. IsAtPlace ys i x) same (slice_get_read items (length items) i x refl below is)
+
+-- what is said of the area at a place holds of every area there
+pub of_area_at : (P : Area → Type 0) (areas : List Area) (place : ℕ) (area : Area) → IsAtPlace areas place area → P area → (other : Area) → IsAtPlace areas place other → P other
+of_area_at P areas place area is held other is_other = subst P (some_same (sym is ∙ is_other)) held
+
+pub area_read : (seen f : Figure) (place : ℕ) (area : Area) → seen ≡ f → place < length f.areas → area ≡ get_or seen.areas place area → IsAtPlace f.areas place area
+area_read seen f place area same below is =
+    subst (λ g. IsAtPlace g.areas place area) same
+    (slice_get_read seen.areas (length seen.areas) place area refl (subst (λ g. place < length g.areas) (sym same) below) is)
+
+-- a list has an item at each place within its length
+record HasItem {X : Type 0} (xs : List X) (i : ℕ) : Type 0 where
+  item : X
+  is : IsAtPlace xs i item
+
+some_item : {X : Type 0} (xs : List X) (i : ℕ) → i < length xs → HasItem xs i
+some_item [] i below = absurd (omega arith)
+some_item (x ∷ xs) zero below = record { item = x; is = refl }
+some_item (x ∷ xs) (suc i) below = let h = some_item xs i (omega arith) in record { item = h.item; is = h.is }
+
+pub ring_later : (area : Area) (i : ℕ) (hole : List Pt) → IsAtPlace area.holes i hole → IsAtPlace (rings_of area) (i + 1) hole
+ring_later area i hole is = subst (λ k. IsAtPlace (rings_of area) k hole) (sym (add-one i)) is
+
+-- at the end of a pass over holes there are none left
+pub holes_passed : (place i : ℕ) (items holes : List (List Pt)) (old new : List OwnedEdge) → items ≡ holes → length items ≤ i → old ++ edges_of_area_rings place 1 items ≡ new ++ edges_of_area_rings place (i + 1) (drop i items) → new ≡ old ++ edges_of_area_rings place 1 holes
+holes_passed place i items holes old new same past h =
+    sym (append-nil new) ∙ ap (λ left. new ++ edges_of_area_rings place (i + 1) left) (sym (drop_all i items past)) ∙ sym h
+    ∙ ap (λ rings. old ++ edges_of_area_rings place 1 rings) same
+
+-- the rows of a shell, and then those of the holes
+pub shell_then_holes : (place : ℕ) (area : Area) (old mid new : List Edge) (side : Hand) → mid ≡ old ++ map (row_of (Ring place 0) side) (edges_of area.shell) → owned_edges new ≡ owned_edges mid ++ edges_of_area_rings place 1 area.holes → owned_edges new ≡ owned_edges old ++ edges_of_area_rings place 0 (rings_of area)
+shell_then_holes place area old mid new side h k =
+    k ∙ sym (more_rows (owned_edges old ++ edges_of_area_rings place 0 (rings_of area)) (edges_of_area_rings place 0 (rings_of area)) (edges_of_area_rings place 1 area.holes)
+    old mid (Ring place 0) side (edges_of area.shell) h refl refl)
+
+-- one area on
+pub area_step : (first : List OwnedEdge) (areas : List Area) (place : ℕ) (old new : List Edge) → place < length areas → ((area : Area) → IsAtPlace areas place area → owned_edges new ≡ owned_edges old ++ edges_of_area_rings place 0 (rings_of area)) → first ≡ owned_edges old ++ edges_of_areas place (drop place areas) → first ≡ owned_edges new ++ edges_of_areas (place + 1) (drop (place + 1) areas)
+area_step first areas place old new below more h = by_item (some_item areas place below)
+  where
+    by_item : HasItem areas place → first ≡ owned_edges new ++ edges_of_areas (place + 1) (drop (place + 1) areas)
+    by_item some =
+        h ∙ ap (λ z. owned_edges old ++ z) (areas_from areas place some.item some.is)
+        ∙ sym (append_assoc (owned_edges old) (edges_of_area_rings place 0 (rings_of some.item)) (edges_of_areas (place + 1) (drop (place + 1) areas)))
+        ∙ ap (λ z. z ++ edges_of_areas (place + 1) (drop (place + 1) areas)) (sym (more some.item some.is))
