@@ -194,7 +194,7 @@ dot_of v d a = (d.x *ℤ shift v a) +ℤ (d.y *ℤ rise v a)
 pub is_toward : Point → Direction → Point → Bool
 is_toward v d a = int_eq (cross_of v d a) (pos 0) && int_lt (pos 0) (dot_of v d a)
 
-moving : (d : Direction) → pos 0 <ℤ ((d.x *ℤ d.x) +ℤ (d.y *ℤ d.y))
+pub moving : (d : Direction) → pos 0 <ℤ ((d.x *ℤ d.x) +ℤ (d.y *ℤ d.y))
 moving d = by_sign d.x
     (λ h. pos-+-nonneg (square_pos d.x (<ℤ_apart h)) (square_nonneg d.y))
     (λ z. nonneg-+-pos (square_nonneg d.x) (square_pos d.y (λ k. d.moves (z, k))))

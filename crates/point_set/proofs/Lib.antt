@@ -8,6 +8,7 @@ pub mod Room
 pub mod Germs
 pub mod GermEdges
 pub mod GermAreas
+pub mod GermSectors
 pub mod SidesRing
 pub mod SidesGerm
 pub mod SidesBeside

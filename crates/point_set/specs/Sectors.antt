@@ -1,7 +1,13 @@
--- The sectors between neighbouring directions, and a sector's middle.
-use Rattle.std.specs.Prelude.{◌≡◌, ℕ, ◌+◌, ◌%◌, ℤ, pos, ◌+ℤ◌, ◌-ℤ◌, ◌*ℤ◌, neg_ℤ, ◌<ℤ◌, ◌≤ℤ◌, ◌⊎◌, List, [], ◌∷◌, length}
+-- The sectors between neighbouring directions, a sector's middle, and the sectors that are free of an area's edges.
+use Rattle.std.specs.Prelude.{◌≡◌, true, ℕ, ◌+◌, ◌%◌, ℤ, pos, ◌+ℤ◌, ◌-ℤ◌, ◌*ℤ◌, neg_ℤ, ◌<ℤ◌, ◌≤ℤ◌, ◌⊎◌, List, [], ◌∷◌, length}
+use Rattle.plane_exact.specs.Plane.{Point}
+use Rattle.plane_exact.specs.Places.{point_of}
 use Rattle.plane_exact.specs.declared.dir.Dir.{Dir}
-use Rattle.point_set.specs.Germ.{Direction}
+use Rattle.plane_exact.specs.declared.point.Seg.{Seg}
+use Rattle.point_set.specs.declared.figure.Area.{Area}
+use Rattle.point_set.specs.Rings.{is_on_edge}
+use Rattle.point_set.specs.Location.{rings_of, edges_of_rings}
+use Rattle.point_set.specs.Germ.{Direction, IsInCone}
 use Rattle.point_set.specs.Validity.{IsAtPlace}
 
 -- A direction of the code, as a direction.
@@ -31,6 +37,13 @@ pub record IsStrictlyWithin (r s d : Direction) : Type 0 where
   pub right : bend_of r s <ℤ pos 0 → (pos 0 <ℤ bend_of r d) ⊎ (pos 0 <ℤ bend_of d s)
   pub opposite : bend_of r s ≡ pos 0 → ¬ PointSameWay r s → pos 0 <ℤ bend_of r d
   pub same : PointSameWay r s → ¬ PointSameWay r d
+
+-- No edge of the area runs from v strictly between r and s, counter-clockwise: of the edges that v is on, none has an end
+-- that lies from v along a direction strictly within.
+abbrev pub HasNoEdgeWithin : Area → Point → Direction → Direction → Type 0
+HasNoEdgeWithin area v r s =
+    (place : ℕ) (f : Seg) → IsAtPlace (edges_of_rings (rings_of area)) place f → is_on_edge v f ≡ true
+    → (t : Direction) → IsStrictlyWithin r s t → (¬ IsInCone v t t (point_of f.a)) × (¬ IsInCone v t t (point_of f.b))
 
 -- The middle of the sector from r to s: the sum of the two where s is to the left of r, else r turned left by a quarter.
 pub record IsMiddleBetween (r s m : Direction) : Type 0 where

@@ -1,6 +1,6 @@
 //! Laws of germs: each is a function that does nothing, and its contract is the law.
 
-ghost use Rattle.std.specs.Prelude.{◌≡◌, ℕ, true};
+ghost use Rattle.std.specs.Prelude.{◌≡◌, ℕ, true, false};
 ghost use Rattle.im_matrix.specs.declared.Loc.{Loc};
 ghost use Rattle.plane_exact.specs.Plane.{Point};
 ghost use Rattle.plane_exact.specs.Places.{point_of};
@@ -8,7 +8,8 @@ ghost use Rattle.plane_exact.specs.declared.point.Seg.{Seg};
 ghost use Rattle.point_set.specs.declared.figure.Area.{Area};
 ghost use Rattle.point_set.specs.Germ.{Direction, IsGerm, IsInCone};
 ghost use Rattle.point_set.specs.Location.{edges_of_rings, rings_of};
-ghost use Rattle.point_set.specs.Rings.{is_on_edge};
+ghost use Rattle.point_set.specs.Rings.{is_on_edge, is_on_edges};
+ghost use Rattle.point_set.specs.Sectors.{HasNoEdgeWithin, IsStrictlyWithin};
 ghost use Rattle.point_set.specs.Shape.{IsAreaShaped};
 ghost use Rattle.point_set.specs.Validity.{IsAtPlace};
 
@@ -22,4 +23,12 @@ pub fn law_germ_is_one_location()
 /// them: none that v is on has an end that lies from v between the two, or along one of them.
 pub fn law_germ_is_the_same_between_edges()
     ensures same { (area : Area) → IsAreaShaped area → (v : Point) (d e : Direction) → ¬ IsInCone v d e v → ((place : ℕ) (f : Seg) → IsAtPlace (edges_of_rings (rings_of area)) place f → is_on_edge v f ≡ true → (¬ IsInCone v d e (point_of f.a)) × (¬ IsInCone v d e (point_of f.b))) → (g h : Loc) → IsGerm area v d g → IsGerm area v e h → g ≡ h }
+{}
+
+/// The germ of an area at v is the same along all directions of one sector: of all that lie strictly between two directions
+/// r and s, counter-clockwise, where no edge of the area runs from v strictly between them. Where v is on no edge, it is the
+/// same along all directions.
+pub fn law_germ_is_the_same_in_a_sector()
+    ensures same { (area : Area) → IsAreaShaped area → (v : Point) (r s : Direction) → HasNoEdgeWithin area v r s → (d e : Direction) → IsStrictlyWithin r s d → IsStrictlyWithin r s e → (g h : Loc) → IsGerm area v d g → IsGerm area v e h → g ≡ h }
+    ensures bare { (area : Area) → IsAreaShaped area → (v : Point) → is_on_edges v (edges_of_rings (rings_of area)) ≡ false → (d e : Direction) (g h : Loc) → IsGerm area v d g → IsGerm area v e h → g ≡ h }
 {}
