@@ -1,5 +1,5 @@
 -- The rules that tokens keep by themselves, and what they build.
-use Rattle.std.specs.Prelude.{◌≡◌, ◌+◌, ◌-◌, ℤ, Bool, true, nat_lt, if◌then◌else◌, Option, Some, None, Result, Ok, Err, List, [], ◌∷◌, ◌++◌, length, slice_index_or, ◌&&◌}
+use Rattle.std.specs.Prelude.{◌≡◌, ℕ, ◌+◌, ◌-◌, ℤ, Bool, true, nat_lt, if◌then◌else◌, Option, Some, None, Result, Ok, Err, List, [], ◌∷◌, ◌++◌, length, slice_get, slice_index_or, ◌&&◌}
 use Rattle.std.specs.Ordering.{int_eq}
 use Rattle.plane_exact.specs.declared.point.Pt.{Pt}
 use Rattle.point_set.specs.declared.figure.Area.{Area}
@@ -64,9 +64,18 @@ abbrev pub ◌>>=◌ : {A B : Type 0} → Result A WktKind → (A → Result B W
 (Ok x) >>= f = f x
 (Err e) >>= f = Err e
 
--- The areas to come have a group of their own, named for the number of areas before it.
+-- The number of a group that begins after these areas: one more than that of the last area, or 0 where there is none. A group
+-- without an area takes no number.
+abbrev pub group_after : Option Area → ℕ
+group_after None = 0
+group_after (Some area) = area.group + 1
+
+abbrev pub next_group : List Area → ℕ
+next_group areas = group_after (slice_get areas (length areas - 1))
+
+-- The areas to come have a group of their own.
 abbrev pub act_group : Build → Result Build WktKind
-act_group b = Ok (record { figure = b.figure; way = b.way; shell = b.shell; holes = b.holes; x = b.x; count = b.count; group = length b.figure.areas })
+act_group b = Ok (record { figure = b.figure; way = b.way; shell = b.shell; holes = b.holes; x = b.x; count = b.count; group = next_group b.figure.areas })
 
 -- A first ordinate begins a position. The position 1,048,577 is one too many.
 abbrev pub with_x : Build → ℤ → Build

@@ -1,11 +1,11 @@
-ghost use Rattle.std.specs.Prelude.{◌≡◌, ◌<◌, IfOk, IfErr, length};
-ghost use Rattle.wkt_text.specs.Rules.{place_value, drop_fault, ends_meet, ring_fault, StopsAt, act, act_group, act_x, act_point, act_way, end_line, end_shell, end_hole, end_area, start_build};
+ghost use Rattle.std.specs.Prelude.{◌≡◌, ◌<◌, ◌^◌, IfOk, IfErr, SomeIff, length};
+ghost use Rattle.wkt_text.specs.Rules.{place_value, drop_fault, ends_meet, ring_fault, StopsAt, act, next_group, act_group, act_x, act_point, act_way, end_line, end_shell, end_hole, end_area, start_build};
 
 use crate::control::{Role, WktKind};
 use crate::number::Numeral;
 use crate::token::Token;
 use plane_exact::{NoMemory, Path, Pt};
-use point_set::{Area, Figure, Paths};
+use point_set::{Area, Areas, Figure, Paths};
 use std::alloc::Global;
 use std::mem;
 
@@ -108,6 +108,16 @@ fn ring_fault(way: &Path) -> Option<WktKind>
     }
 }
 
+/// The number of a group that begins after these areas, or None where it doesn't fit.
+fn next_group(areas: &Areas) -> Option<u32>
+    ensures { SomeIff result (next_group areas.now < 2 ^ 32) (next_group areas.now) }
+{
+    match areas.as_slice().last() {
+        Some(area) => area.group.checked_add(1),
+        None => Some(0),
+    }
+}
+
 impl Build {
     /// Before any token. Takes no memory.
     pub fn new(alloc: Global) -> Build
@@ -129,14 +139,12 @@ impl Build {
         ensures done { IfOk result (λ _. act_group self.old ≡ Ok self.new) }
         ensures stop { IfErr result (λ e. StopsAt e (act_group self.old)) }
     {
-        // There are never more areas than positions, so the number always fits.
-        match u32::try_from(self.figure.areas.len()) {
-            Ok(group) => {
-                self.group = group;
-                Ok(())
-            }
-            Err(_) => Err(Stop::NoMemory),
-        }
+        // There are never more groups than positions, so the number always fits.
+        let Some(group) = next_group(&self.figure.areas) else {
+            return Err(Stop::NoMemory);
+        };
+        self.group = group;
+        Ok(())
     }
 
     /// Takes a first ordinate.

@@ -165,3 +165,27 @@ fn rows_of_collections(rt: HostRuntime) -> Result<(), Fail> {
     assert_eq!(rt; type_word(b" linestringZM", 0), Some(TypeWord::LineString));
     Ok(())
 }
+
+/// The group of the area with this number, or None where there is no such area.
+fn group_at(rt: &HostRuntime, text: &[u8], index: usize) -> Option<u32> {
+    let scale = Scale::new(0)?;
+    match read_next(rt.alloc(), text, 0, scale) {
+        Ok(Some(parsed)) => {
+            let area = parsed.figure.areas.as_slice().get(index)?;
+            Some(area.group)
+        }
+        _ => None,
+    }
+}
+
+#[test]
+fn rows_of_groups(rt: HostRuntime) -> Result<(), Fail> {
+    // Two areas of one group, a group without an area, and an area of the next group.
+    let text =
+        b"GEOMETRYCOLLECTION(MULTIPOLYGON(((0 0,9 0,9 9,0 0)),((20 0,29 0,29 9,20 0))),MULTIPOLYGON EMPTY,POLYGON((40 0,49 0,49 9,40 0)))";
+    assert_eq!(rt; group_at(&rt, text, 0), Some(0));
+    assert_eq!(rt; group_at(&rt, text, 1), Some(0));
+    assert_eq!(rt; group_at(&rt, text, 2), Some(1));
+    assert_eq!(rt; group_at(&rt, text, 3), None);
+    Ok(())
+}
