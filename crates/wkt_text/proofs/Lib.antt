@@ -7,4 +7,5 @@ pub mod Progress
 pub mod Shapes
 pub mod Courses
 pub mod Spells
+pub mod TreeFigures
 pub mod Values

@@ -24,6 +24,7 @@ use Rattle.wkt_text.specs.Grammar.{spelling}
 use Rattle.point_set.specs.declared.figure.Figure.{Figure}
 use Rattle.std.proofs.lemmas.List.{append_assoc, append-nil}
 use Rattle.wkt_text.specs.Faults.{Stands, tokens_of, builds, Reads, IsRight, IsOnlyWhite, FirstFault}
+use Rattle.wkt_text.proofs.TreeFigures.{built_figure, reads_built}
 use Rattle.wkt_text.proofs.Spells.{spelled_run}
 use Rattle.wkt_text.proofs.Courses.{run_goes, goes_parts, goes_same, builds_front, tokens_split}
 use Rattle.wkt_text.proofs.Parses.{at, start, Goes, run_spelled, goes_run}
@@ -102,12 +103,13 @@ pub so_far_reads : (scale : ℕ) (bytes : List ℕ) (from place : ℕ) (c : Cont
     c.step ≡ Done → Reads scale bytes from b.figure place
 so_far_reads scale bytes from place c b s done =
     let (g, e) = run_spelled s.taken.front (goes_run s.taken.front start c s.taken.goes done) in
+    let kept = sym (ap (λ u. builds start_build u) e) ∙ s.taken.kept in
     record {
       geometry = g;
       build = b;
       stands = subst (λ u. Stands scale bytes from u place) (sym s.taken.tokens ∙ ap tokens_of e) s.stands;
-      kept = sym (ap (λ u. builds start_build u) e) ∙ s.taken.kept;
-      says = refl;
+      kept = kept;
+      says = built_figure g b kept;
     }
 
 -- A type word that is nested too deep is never taken.
@@ -202,7 +204,10 @@ one_reading scale bytes from f g p q r s =
     v = reads_whole scale bytes from g q s
 
     by_tokens : tokens_of (spelling r.geometry) ≡ tokens_of (spelling s.geometry) → f ≡ g
-    by_tokens e = r.says ∙ ap (λ (u : Build). u.figure) (taken_same _ w.control v.control r.build s.build w.taken (subst (λ u. Taken u v.control s.build) (sym e) v.taken)).1 ∙ sym s.says
+    by_tokens e =
+        reads_built scale bytes from f p r
+        ∙ ap (λ (u : Build). u.figure) (taken_same _ w.control v.control r.build s.build w.taken (subst (λ u. Taken u v.control s.build) (sym e) v.taken)).1
+        ∙ sym (reads_built scale bytes from g q s)
 
     ends_at : (more : List Token) (a b : ℕ) → more ≡ [] → Stands scale bytes a more b → a ≡ b
     ends_at [] a b e h = h

@@ -31,6 +31,7 @@ use Rattle.wkt_text.specs.Numbers as numbers
 use Rattle.wkt_text.specs.Tokens.{tag_token, type_token, is_name, word_token, word_in, number_in, is_number_start, mark, token_in, place_of, lexeme_at}
 use Rattle.wkt_text.specs.Grammar.{Slot, spelling}
 use Rattle.wkt_text.specs.Faults.{Stands, tokens_of, builds, Reads}
+use Rattle.wkt_text.proofs.TreeFigures.{reads_built}
 use Rattle.std.specs.Char.{is_ascii_alphabetic}
 use Rattle.wkt_text.specs.declared.build.Build.{Build}
 use Rattle.wkt_text.specs.Rules.{◌>>=◌, place_value, drop_fault, same_place, ends_meet, ring_fault, unless, with_x, with_point, with_position, with_area, act, act_by, start_build}
@@ -355,5 +356,5 @@ stands_near scale bytes (t ∷ ts) from last (e, h) =
 -- The figure that a text says is well shaped.
 pub reads_shaped : (scale : ℕ) (bytes : List ℕ) (from : ℕ) (figure : Figure) (last : ℕ) → Reads scale bytes from figure last → IsWellShaped figure
 reads_shaped scale bytes from figure last r =
-    subst IsWellShaped (sym r.says) (built_shaped r.build (built_all (spelling r.geometry) start_build r.build built_start
+    subst IsWellShaped (sym (reads_built scale bytes from figure last r)) (built_shaped r.build (built_all (spelling r.geometry) start_build r.build built_start
     (stands_near scale bytes (tokens_of (spelling r.geometry)) from last r.stands) r.kept))

@@ -11,6 +11,7 @@ use Rattle.wkt_text.specs.declared.control.WktKind.{WktKind}
 use Rattle.wkt_text.specs.declared.control.WktKind.TheVariants.{Syntax, UnknownType, Ragged}
 use Rattle.wkt_text.specs.declared.build.Build.{Build}
 use Rattle.wkt_text.specs.Grammar.{Slot, Geometry, spelling}
+use Rattle.wkt_text.specs.Figures.{figure_of}
 use Rattle.wkt_text.specs.Rules.{◌>>=◌, act, start_build}
 use Rattle.wkt_text.specs.Tokens.{lexeme_at}
 
@@ -28,13 +29,13 @@ abbrev pub builds : Build → List Slot → Result Build WktKind
 builds b [] = Ok b
 builds b (x ∷ rest) = act b x.1 x.0 >>= λ c. builds c rest
 
--- From a place up to another stands the text of a geometry in which every rule is kept, and this is its figure.
+-- From a place up to another stands the text of a geometry in which every rule is kept, and this is the figure of its tree.
 pub record Reads (scale : ℕ) (bytes : List ℕ) (from : ℕ) (figure : Figure) (last : ℕ) : Type 0 where
   pub geometry : Geometry
   pub build : Build
   pub stands : Stands scale bytes from (tokens_of (spelling geometry)) last
   pub kept : builds start_build (spelling geometry) ≡ Ok build
-  pub says : figure ≡ build.figure
+  pub says : figure ≡ figure_of geometry
 
 -- Some geometry's text begins with these tokens, and every rule is kept so far.
 pub record IsRight (ts : List Token) : Type 0 where

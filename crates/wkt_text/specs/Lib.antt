@@ -1,5 +1,6 @@
 pub mod Bytes
 pub mod Faults
+pub mod Figures
 pub mod Grammar
 pub mod Machine
 pub mod Numbers
