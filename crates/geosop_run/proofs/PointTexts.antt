@@ -1,5 +1,5 @@
 -- Texts of points: a geometry whose type word is POINT or MULTIPOINT gives a figure of points alone.
-use Rattle.std.proofs.Common.{◌≡◌, ℕ, ◌<◌, ◌≤◌, ℤ, Bool, true, false, cond, Option, Some, None, Result, Ok, Err, List, [], ◌∷◌, ◌⊎◌, inl, inr, refl, sym, ap, subst, ◌∙◌, arith, option_map, take_while, drop, nat_lt, ◌==◌, codes}
+use Rattle.std.proofs.Common.{◌≡◌, ℕ, ◌<◌, ◌≤◌, Bool, true, false, cond, Option, Some, None, List, [], ◌∷◌, ◌⊎◌, inl, inr, refl, sym, ap, subst, ◌∙◌, arith, option_map, take_while, drop, ◌==◌, codes}
 use Rattle.std.specs.List.{prefix_len}
 use Rattle.std.specs.Char.{is_ascii_alphabetic}
 use Rattle.std.proofs.lemmas.Bool.{true≢false}
@@ -8,21 +8,18 @@ use Rattle.point_set.specs.declared.figure.Figure.{Figure}
 use Rattle.wkt_text.specs.Bytes.{is_white}
 use Rattle.wkt_text.specs.Words.{type_of, tag_of, type_at}
 use Rattle.wkt_text.specs.Tokens.{lexeme_at, token_in, word_in, number_in, place_of, word_token, is_name, is_number_start, type_token, tag_token, mark}
-use Rattle.wkt_text.specs.Grammar.{Slot, slot, Ordinate, More, Position, Element, empty_element, bare, bracketed, empty_many, several, Simple, empty_point, point, line, polygon, points, lines, polygons, Writing, joined, apart, Geometry, simple, empty_collection, collection, ordinate_then, further_then, more_then, position_then, others_then, element_then, simple_then, type_of_simple, head_then, depth_role, geometry_then, geometries_then, gap_then, spelling}
-use Rattle.wkt_text.specs.Rules.{◌>>=◌, act, place_value, drop_fault, unless, with_x, with_point, start_build}
-use Rattle.wkt_text.specs.Faults.{Stands, tokens_of, builds, Reads}
+use Rattle.wkt_text.specs.Grammar.{Slot, slot, Simple, empty_point, point, line, polygon, points, lines, polygons, Writing, joined, apart, tag_of_writing, Geometry, simple, empty_collection, collection, simple_then, type_of_simple, head_then, depth_role, geometry_then, geometries_then, gap_then, spelling}
+use Rattle.wkt_text.specs.Figures.{figure_of}
+use Rattle.wkt_text.specs.Faults.{Stands, tokens_of, Reads}
 use Rattle.wkt_text.specs.declared.word.TypeWord.{TypeWord}
 use Rattle.wkt_text.specs.declared.word.TypeWord.TheVariants as type
 use Rattle.wkt_text.specs.declared.word.Tag.{Tag}
-use Rattle.wkt_text.specs.declared.word.Tag.TheVariants.{Plain, Z, M, Zm}
+use Rattle.wkt_text.specs.declared.word.Tag.TheVariants.{Plain}
 use Rattle.wkt_text.specs.declared.token.Token.{Token}
 use Rattle.wkt_text.specs.declared.token.Token.TheVariants as token
 use Rattle.wkt_text.specs.declared.control.Role.{Role}
 use Rattle.wkt_text.specs.declared.control.Role.TheVariants as role
-use Rattle.wkt_text.specs.declared.control.WktKind.{WktKind}
-use Rattle.wkt_text.specs.declared.control.WktKind.TheVariants.{TooMany}
 use Rattle.wkt_text.specs.declared.number.Numeral.{Numeral}
-use Rattle.wkt_text.specs.declared.build.Build.{Build}
 use Rattle.wkt_text.proofs.Progress.{lexeme_moves}
 use Rattle.geosop_run.specs.Points.{HasPointsAlone}
 use Rattle.geosop_run.specs.Sources.{is_unbuilt}
@@ -103,123 +100,6 @@ lexeme_type scale bytes from kind t e =
     ap (λ text. option_map (λ x. x.0) (type_of (take_while is_ascii_alphabetic text))) (drop-drop (prefix_len is_white (drop from bytes)) from bytes)
     ∙ text_type scale (drop (place_of bytes from) bytes) kind t e
 
--- ---- tokens of points build points alone
-abbrev IsPointRole : Role → Type 0
-IsPointRole role.Head = Unit {0}
-IsPointRole role.Mark = Unit {0}
-IsPointRole role.X = Unit {0}
-IsPointRole role.PointY = Unit {0}
-IsPointRole role.Demanded = Unit {0}
-IsPointRole role.Further = Unit {0}
-IsPointRole other = ⊥
-
-abbrev AreOfPoints : List Slot → Type 0
-AreOfPoints [] = Unit {0}
-AreOfPoints (s ∷ others) = IsPointRole s.1 × AreOfPoints others
-
--- a step that succeeded had a value
-record Stepped {A B : Type 0} (r : Result A WktKind) (f : A → Result B WktKind) (d : B) : Type 0 where
-  value : A
-  had : r ≡ Ok value
-  went : f value ≡ Ok d
-
-stepped : {A B : Type 0} (r : Result A WktKind) (f : A → Result B WktKind) (d : B) → (r >>= f) ≡ Ok d → Stepped r f d
-stepped (Ok x) f d e = record { value = x; had = refl; went = e }
-stepped {A} {B} (Err k) f d e = absurd (no_error e)
-  where
-    no_error : ◌≡◌ {A = Result B WktKind} (Err k) (Ok d) → ⊥
-    no_error h = cc
-
-ok_same : {A : Type 0} {a b : A} → ◌≡◌ {A = Result A WktKind} (Ok a) (Ok b) → a ≡ b
-ok_same e = cc
-
-same_points : {f g : Figure} → f ≡ g → HasPointsAlone f → HasPointsAlone g
-same_points e h = subst HasPointsAlone e h
-
-same_build : (b d : Build) → ◌≡◌ {A = Result Build WktKind} (Ok b) (Ok d) → HasPointsAlone b.figure → HasPointsAlone d.figure
-same_build b d e h = same_points (ap (λ (x : Build). x.figure) (ok_same e)) h
-
-keeps_point : (b d : Build) (x : Option ℤ) (z : ℤ) → ◌≡◌ {A = Result Build WktKind} (Ok (with_point b x z)) (Ok d) → HasPointsAlone b.figure → HasPointsAlone d.figure
-keeps_point b d None z e h = same_build b d e h
-keeps_point b d (Some x) z e h = same_build (with_point b (Some x) z) d e (record { lines = h.lines; areas = h.areas })
-
-keeps_x : (b d : Build) (room : Bool) (r : Result ℤ WktKind) → cond room (r >>= λ z. Ok (with_x b z)) (Err TooMany) ≡ Ok d → HasPointsAlone b.figure → HasPointsAlone d.figure
-keeps_x b d true r e h = let s = stepped r (λ z. Ok (with_x b z)) d e in same_build (with_x b s.value) d s.went h
-keeps_x b d false r e h = absurd (no_error e)
-  where
-    no_error : ◌≡◌ {A = Result Build WktKind} (Err TooMany) (Ok d) → ⊥
-    no_error k = cc
-
-keeps_unless : (b d : Build) (o : Option WktKind) → unless o b ≡ Ok d → HasPointsAlone b.figure → HasPointsAlone d.figure
-keeps_unless b d None e h = same_build b d e h
-keeps_unless b d (Some k) e h = absurd (no_error e)
-  where
-    no_error : ◌≡◌ {A = Result Build WktKind} (Err k) (Ok d) → ⊥
-    no_error u = cc
-
-act_keeps : (b d : Build) (r : Role) (t : Token) → IsPointRole r → act b r t ≡ Ok d → HasPointsAlone b.figure → HasPointsAlone d.figure
-unfolding act
-act_keeps b d role.Head t k e h = same_build b d e h
-act_keeps b d role.Mark t k e h = same_build b d e h
-act_keeps b d role.X t k e h = keeps_x b d (nat_lt b.count 1048576) (place_value t) e h
-act_keeps b d role.PointY t k e h = let s = stepped (place_value t) (λ z. Ok (with_point b b.x z)) d e in keeps_point b d b.x s.value s.went h
-act_keeps b d role.Demanded t k e h = keeps_unless b d (drop_fault t) e h
-act_keeps b d role.Further t k e h = keeps_unless b d (drop_fault t) e h
-act_keeps b d other t k e h = absurd k
-
-builds_keeps : (b d : Build) (slots : List Slot) → AreOfPoints slots → builds b slots ≡ Ok d → HasPointsAlone b.figure → HasPointsAlone d.figure
-builds_keeps b d [] k e h = same_build b d e h
-builds_keeps b d (s ∷ others) k e h =
-    let go = stepped (act b s.1 s.0) (λ c. builds c others) d e in
-    builds_keeps go.value d others k.1 go.went (act_keeps b go.value s.1 s.0 k.0 go.had h)
-
--- ---- the spellings of points
-all_ordinate : (r : Role) (o : Ordinate) (rest : List Slot) → IsPointRole r → AreOfPoints rest → AreOfPoints (ordinate_then r o rest)
-all_ordinate r o rest k h = (k, h)
-
-all_further : (o : Option Ordinate) (rest : List Slot) → AreOfPoints rest → AreOfPoints (further_then o rest)
-all_further None rest h = h
-all_further (Some o) rest h = all_ordinate role.Further o rest tt h
-
-all_more : (tag : Tag) (m : More tag) (rest : List Slot) → AreOfPoints rest → AreOfPoints (more_then tag m rest)
-all_more Plain None rest h = h
-all_more Plain (Some m) rest h = all_ordinate role.Further m.0 (further_then m.1 rest) tt (all_further m.1 rest h)
-all_more Z m rest h = all_ordinate role.Demanded m rest tt h
-all_more M m rest h = all_ordinate role.Demanded m rest tt h
-all_more Zm m rest h = all_ordinate role.Demanded m.0 (ordinate_then role.Demanded m.1 rest) tt (all_ordinate role.Demanded m.1 rest tt h)
-
-all_position : {tag : Tag} (p : Position tag) (rest : List Slot) → AreOfPoints rest → AreOfPoints (position_then role.PointY p rest)
-all_position {tag} p rest h = (tt, (tt, all_more tag p.more rest h))
-
-all_element : {tag : Tag} (x : Element tag) (rest : List Slot) → AreOfPoints rest → AreOfPoints (element_then x rest)
-all_element empty_element rest h = (tt, h)
-all_element (bare p) rest h = all_position p rest h
-all_element (bracketed p) rest h = (tt, all_position p (slot token.Close role.Mark ∷ rest) (tt, h))
-
-all_others : {tag : Tag} (xs : List (Element tag)) (rest : List Slot) → AreOfPoints rest → AreOfPoints (others_then element_then xs rest)
-all_others [] rest h = h
-all_others (x ∷ xs) rest h = (tt, all_element x (others_then element_then xs rest) (all_others xs rest h))
-
-abbrev IsPointType : TypeWord → Type 0
-IsPointType type.Point = Unit {0}
-IsPointType type.MultiPoint = Unit {0}
-IsPointType other = ⊥
-
-all_simple : {tag : Tag} (s : Simple tag) (rest : List Slot) → IsPointType (type_of_simple s) → AreOfPoints rest → AreOfPoints (simple_then s rest)
-all_simple empty_point rest k h = (tt, h)
-all_simple (point p) rest k h = (tt, all_position p (slot token.Close role.Mark ∷ rest) (tt, h))
-all_simple (points empty_many) rest k h = (tt, h)
-all_simple (points (several x xs)) rest k h =
-    (tt, all_element x (others_then element_then xs (slot token.Close role.Mark ∷ rest)) (all_others xs (slot token.Close role.Mark ∷ rest) (tt, h)))
-all_simple (line w) rest k h = absurd k
-all_simple (polygon s) rest k h = absurd k
-all_simple (lines ws) rest k h = absurd k
-all_simple (polygons ss) rest k h = absurd k
-
-all_head : (kind : TypeWord) (w : Writing) (rest : List Slot) → AreOfPoints rest → AreOfPoints (head_then role.Head kind w rest)
-all_head kind (joined t) rest h = (tt, h)
-all_head kind (apart t) rest h = (tt, (tt, h))
-
 -- the type word of a geometry, and that it is spelled first
 abbrev type_of_geometry : Geometry → TypeWord
 type_of_geometry (simple w s) = type_of_simple s
@@ -242,6 +122,12 @@ spelled_first (collection w g gs) =
     let h = head_spelled (depth_role 0) type.GeometryCollection w (slot token.Open role.Mark ∷ geometry_then g 1 (geometries_then gs 1 (slot token.Close role.Mark ∷ []))) in
     record { tag = h.0; more = h.1; is = h.2 }
 
+-- ---- a geometry of points gives points alone
+abbrev IsPointType : TypeWord → Type 0
+IsPointType type.Point = Unit {0}
+IsPointType type.MultiPoint = Unit {0}
+IsPointType other = ⊥
+
 built_type : (kind : TypeWord) → is_unbuilt (Some kind) ≡ false → IsPointType kind
 built_type type.Point e = tt
 built_type type.MultiPoint e = tt
@@ -251,19 +137,28 @@ built_type type.MultiLineString e = absurd (true≢false e)
 built_type type.MultiPolygon e = absurd (true≢false e)
 built_type type.GeometryCollection e = absurd (true≢false e)
 
-of_points : (g : Geometry) → IsPointType (type_of_geometry g) → AreOfPoints (spelling g)
-of_points (simple w s) k = all_head (type_of_simple s) w (simple_then s []) (all_simple s [] k tt)
+simple_points : (w : Writing) (s : Simple (tag_of_writing w)) → IsPointType (type_of_simple s) → HasPointsAlone (figure_of (simple w s))
+unfolding figure_of
+simple_points w empty_point k = record { lines = refl; areas = refl }
+simple_points w (point p) k = record { lines = refl; areas = refl }
+simple_points w (points es) k = record { lines = refl; areas = refl }
+simple_points w (line l) k = absurd k
+simple_points w (polygon s) k = absurd k
+simple_points w (lines ls) k = absurd k
+simple_points w (polygons ss) k = absurd k
+
+of_points : (g : Geometry) → IsPointType (type_of_geometry g) → HasPointsAlone (figure_of g)
+of_points (simple w s) k = simple_points w s k
 of_points (empty_collection w) k = absurd k
 of_points (collection w g gs) k = absurd k
 
--- a geometry of a built type gives points alone
 pub reads_points : (scale : ℕ) (bytes : List ℕ) (from : ℕ) (f : Figure) (last : ℕ) → is_unbuilt (type_at bytes from) ≡ false → Reads scale bytes from f last → HasPointsAlone f
 reads_points scale bytes from f last built r =
     let first = spelled_first r.geometry in
     let stands = subst (λ (u : List Token). Stands scale bytes from u last) first.is r.stands in
     let kind = lexeme_type scale bytes from (type_of_geometry r.geometry) first.tag stands.0 in
-    let points = of_points r.geometry (built_type (type_of_geometry r.geometry) (ap is_unbuilt (sym kind) ∙ built)) in
-    same_points (sym r.says) (builds_keeps start_build r.build (spelling r.geometry) points r.kept (record { lines = refl; areas = refl }))
+    subst HasPointsAlone (sym r.says)
+    (of_points r.geometry (built_type (type_of_geometry r.geometry) (ap is_unbuilt (sym kind) ∙ built)))
 
 -- the end of a text that is read lies behind its beginning
 pub reads_onward : (scale : ℕ) (bytes : List ℕ) (from : ℕ) (f : Figure) (last : ℕ) → Reads scale bytes from f last → from < last
