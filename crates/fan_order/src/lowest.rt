@@ -1,20 +1,7 @@
 ghost use Rattle.std.specs.Prelude.{◌≤◌, unsigned_abs};
-ghost use Rattle.std.specs.Int.{IsGcd};
 ghost use Rattle.fan_order.specs.Rays.{IsRayOf};
 
-use plane_exact::Dir;
-
-/// The greatest common divisor, by Euclid's way.
-fn greatest_divisor(a: u64, b: u64) -> u64
-    ensures greatest { IsGcd a b result }
-{
-    let mut x = a;
-    let mut y = b;
-    while y != 0 {
-        (x, y) = (y, x % y);
-    }
-    x
-}
+use plane_exact::{Dir, greatest_divisor};
 
 /// The direction in lowest terms.
 pub(crate) fn lowest(dir: Dir) -> Dir

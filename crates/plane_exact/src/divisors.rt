@@ -3,8 +3,8 @@ ghost use Rattle.std.specs.Int.{IsGcd};
 ghost use Prim.Native.Nat.{◌∣◌};
 ghost use Rattle.plane_exact.specs.Nodes.{IsFraction};
 
-/// The greatest common divisor, by Euclid's way.
-fn greatest_divisor(a: u64, b: u64) -> u64
+/// The greatest common divisor of two numbers, by Euclid's way; of a number and 0 it is the number. Takes no memory.
+pub fn greatest_divisor(a: u64, b: u64) -> u64
     ensures greatest { IsGcd a b result }
 {
     let mut x = a;

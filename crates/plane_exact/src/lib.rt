@@ -18,6 +18,7 @@ mod turns;
 mod window;
 
 pub use dir::Dir;
+pub use divisors::greatest_divisor;
 pub use items::{ItemList, NoMemory};
 pub use laws::{
     law_mixes_are_means, law_on_segment_is_tested, law_order_of_ends_is_free,
