@@ -7,14 +7,18 @@ pub const LIMIT: i64 = 1_048_575;
 /// A position with whole-number coordinates.
 #[derive(Clone, Copy, Debug, PartialEq, Eq)]
 pub struct Pt {
+    /// The abscissa: how far to the right of the origin.
     pub x: i64,
+    /// The height: how far above the origin.
     pub y: i64,
 }
 
 /// The segment from `a` to `b`.
 #[derive(Clone, Copy, Debug, PartialEq, Eq)]
 pub struct Seg {
+    /// The start.
     pub a: Pt,
+    /// The end.
     pub b: Pt,
 }
 

@@ -8,9 +8,13 @@ use crate::rounding::whole_range;
 /// A closed box. It is empty where a low side is beyond its high one.
 #[derive(Clone, Copy, Debug, PartialEq, Eq)]
 pub struct Window {
+    /// The least abscissa.
     pub low_x: i64,
+    /// The least height.
     pub low_y: i64,
+    /// The greatest abscissa.
     pub high_x: i64,
+    /// The greatest height.
     pub high_y: i64,
 }
 

@@ -4,6 +4,7 @@ use Rattle.std.specs.List.{All, list_any}
 use Rattle.std.proofs.lemmas.Bool.{or_left, or_right, true≢false}
 use Rattle.std.proofs.lemmas.Bool.Decides.{not_from_Decides}
 use Rattle.std.proofs.lemmas.List.Elements.{All-head, All-tail}
+use Rattle.im_matrix.specs.declared.Cell.{Cell}
 use Rattle.im_matrix.specs.declared.Loc.{Loc}
 use Rattle.im_matrix.specs.declared.Loc.TheVariants.{Boundary}
 use Rattle.whole_algebra.proofs.Laws.{linear}
@@ -17,14 +18,17 @@ use Rattle.plane_exact.specs.Places.{point_of}
 use Rattle.plane_exact.specs.declared.point.Pt.{Pt}
 use Rattle.plane_exact.specs.declared.point.Seg.{Seg}
 use Rattle.point_set.specs.declared.figure.Area.{Area}
+use Rattle.point_set.specs.declared.figure.Figure.{Figure}
+use Rattle.point_set.specs.declared.rule.Rule.{Rule}
 use Rattle.point_set.specs.Rings.{edges_of, is_on_edge, is_on_edges, is_inside}
 use Rattle.point_set.specs.Location.{location, location_by, rings_of, edges_of_rings}
 use Rattle.point_set.specs.Shape.{IsRingShaped, IsAreaShaped}
 use Rattle.point_set.specs.Validity.{IsAtPlace}
-use Rattle.point_set.specs.Germ.{Direction, IsAway, HoldsAlong, IsGerm, IsInCone}
+use Rattle.point_set.specs.Germ.{Direction, IsAway, HoldsAlong, IsGerm, IsPairGerm, IsInCone}
 use Rattle.point_set.proofs.ParityRing.{Misses, inside_stays, misses_left, misses_right, misses_start, misses_end}
 use Rattle.point_set.proofs.Room.{size_of, size_is}
 use Rattle.point_set.proofs.Germs.{away_point, away_point_is, away_shift, away_rise}
+use Rattle.point_set.proofs.LocationKinds.{one_part}
 use Rattle.point_set.proofs.GermEdges.{AreClear, AreJoined, joined_between, direction_pointed, is_toward, Decides-is_toward, on_true}
 
 -- ---- a segment between two points of a segment is part of it
@@ -193,6 +197,13 @@ pub germ_one : (area : Area) (v : Point) (d : Direction) (g h : Loc) → IsGerm 
 germ_one area v d g h is_g is_h =
     let n = is_g.from + is_h.from in
     sym (is_g.holds (suc n) (omega arith) (away_point v d n) (away_point_is v d n)) ∙ is_h.holds (suc n) (omega arith) (away_point v d n) (away_point_is v d n)
+
+pub pair_germ_one : (a b : Figure) (rule : Rule) (v : Point) (d : Direction) (g h : Cell) → IsPairGerm a b rule v d g → IsPairGerm a b rule v d h → g ≡ h
+pair_germ_one a b rule v d g h is_g is_h =
+    let n = is_g.from + is_h.from in
+    let p = is_g.holds (suc n) (omega arith) (away_point v d n) (away_point_is v d n) in
+    let q = is_h.holds (suc n) (omega arith) (away_point v d n) (away_point_is v d n) in
+    λ i. record { a = one_part p.in_a q.in_a i; b = one_part p.in_b q.in_b i }
 
 pub clear_from : (v : Point) (d e : Direction) (edges : List Seg) → ((place : ℕ) (f : Seg) → IsAtPlace edges place f → is_on_edge v f ≡ true → (¬ IsInCone v d e (point_of f.a)) × (¬ IsInCone v d e (point_of f.b))) → AreClear v d e edges
 clear_from v d e [] h = tt

@@ -1,9 +1,13 @@
 -- Germs: what holds near a point along a direction.
 use Rattle.std.specs.Prelude.{◌≡◌, ℕ, ◌<◌, ℤ, pos, ◌+ℤ◌, ◌*ℤ◌, ◌≤ℤ◌, ◌<ℤ◌}
+use Rattle.im_matrix.specs.declared.Cell.{Cell}
 use Rattle.im_matrix.specs.declared.Loc.{Loc}
 use Rattle.plane_exact.specs.Plane.{Point, shift, rise}
 use Rattle.point_set.specs.declared.figure.Area.{Area}
+use Rattle.point_set.specs.declared.figure.Figure.{Figure}
+use Rattle.point_set.specs.declared.rule.Rule.{Rule}
 use Rattle.point_set.specs.Location.{location}
+use Rattle.point_set.specs.Relation.{IsInCell}
 
 -- A direction: two whole numbers of any size, not both 0.
 pub record Direction : Type 0 where
@@ -24,6 +28,11 @@ pub record HoldsAlong (Set : Point → Type 0) (v : Point) (d : Direction) : Typ
 -- The germ of the location in an area, at v along d: the location of the points v + d/n from some n on.
 abbrev pub IsGerm : Area → Point → Direction → Loc → Type 0
 IsGerm area v d germ = HoldsAlong (λ p. location area p ≡ germ) v d
+
+-- The germ of two figures, at v along d: the part of the first and the part of the second in which the points v + d/n lie from
+-- some n on.
+abbrev pub IsPairGerm : Figure → Figure → Rule → Point → Direction → Cell → Type 0
+IsPairGerm a b rule v d pair = HoldsAlong (IsInCell a b rule pair) v d
 
 -- A point lies from v in a direction between d and e, the less way round: it is v + i·d + j·e, up to a positive factor, for
 -- i and j of at least 0 that aren't both 0.

@@ -23,14 +23,18 @@ pub enum Owner {
 /// An edge of a figure.
 #[derive(Clone, Copy, Debug, PartialEq, Eq)]
 pub struct Edge {
+    /// The segment between two neighbouring positions that differ.
     pub seg: Seg,
+    /// The line or the ring to which it belongs.
     pub owner: Owner,
+    /// The side on which the inside of its area lies.
     pub hand: Hand,
 }
 
 /// The place of an edge in the list of a figure's edges, counted from 0.
 #[derive(Clone, Copy, Debug, PartialEq, Eq)]
 pub struct EdgeId {
+    /// The place.
     pub place: u32,
 }
 

@@ -1,22 +1,27 @@
 //! Laws of germs: each is a function that does nothing, and its contract is the law.
 
 ghost use Rattle.std.specs.Prelude.{◌≡◌, ℕ, true, false};
+ghost use Rattle.im_matrix.specs.declared.Cell.{Cell};
 ghost use Rattle.im_matrix.specs.declared.Loc.{Loc};
 ghost use Rattle.plane_exact.specs.Plane.{Point};
 ghost use Rattle.plane_exact.specs.Places.{point_of};
 ghost use Rattle.plane_exact.specs.declared.point.Seg.{Seg};
 ghost use Rattle.point_set.specs.declared.figure.Area.{Area};
-ghost use Rattle.point_set.specs.Germ.{Direction, IsGerm, IsInCone};
+ghost use Rattle.point_set.specs.declared.figure.Figure.{Figure};
+ghost use Rattle.point_set.specs.declared.rule.Rule.{Rule};
+ghost use Rattle.point_set.specs.Germ.{Direction, IsGerm, IsPairGerm, IsInCone};
 ghost use Rattle.point_set.specs.Location.{edges_of_rings, rings_of};
 ghost use Rattle.point_set.specs.Rings.{is_on_edge, is_on_edges};
 ghost use Rattle.point_set.specs.Sectors.{HasNoEdgeWithin, IsStrictlyWithin};
 ghost use Rattle.point_set.specs.Shape.{IsAreaShaped};
 ghost use Rattle.point_set.specs.Validity.{IsAtPlace};
 
-/// Near any point, the location in an area settles along every direction, to one location.
+/// Near any point, the location in an area settles along every direction, to one location. Two figures have at most one
+/// germ along a direction.
 pub fn law_germ_is_one_location()
     ensures some { (area : Area) → IsAreaShaped area → (v : Point) (d : Direction) → (germ : Loc) × IsGerm area v d germ }
     ensures one { (area : Area) (v : Point) (d : Direction) (g h : Loc) → IsGerm area v d g → IsGerm area v d h → g ≡ h }
+    ensures one_pair { (a b : Figure) (rule : Rule) (v : Point) (d : Direction) (g h : Cell) → IsPairGerm a b rule v d g → IsPairGerm a b rule v d h → g ≡ h }
 {}
 
 /// The germ of an area at v is the same along two directions that aren't opposite and have no edge of the area between

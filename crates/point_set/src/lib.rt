@@ -13,6 +13,8 @@ mod laws_sides;
 mod rule;
 mod shape;
 mod target;
+#[cfg(test)]
+mod tests;
 mod valid;
 
 pub use dim_loc::DimLoc;
