@@ -2,3 +2,4 @@ pub mod Rays
 pub mod Counting
 pub mod Turned
 pub mod Rows
+pub mod Triangle

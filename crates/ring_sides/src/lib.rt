@@ -7,3 +7,6 @@ mod side;
 
 pub use edges::edges_of;
 pub use side::{interior_side, orient_ring};
+
+#[cfg(test)]
+mod tests;
