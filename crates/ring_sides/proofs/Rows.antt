@@ -1,5 +1,5 @@
 -- Rows of edges, one line, ring or area on, and the hands of an area's edges.
-use Rattle.std.proofs.Common.{◌≡◌, ℕ, zero, suc, ◌+◌, ◌<◌, ◌≤◌, Bool, true, false, List, [], ◌∷◌, ◌++◌, map, length, drop, get_or, ap, refl, sym, ◌∙◌, subst, arith, add-one, sum_by}
+use Rattle.std.proofs.Common.{◌≡◌, ℕ, zero, suc, ◌+◌, ◌<◌, ◌≤◌, List, [], ◌∷◌, ◌++◌, map, length, drop, get_or, ap, refl, sym, ◌∙◌, subst, arith, add-one, sum_by}
 use Rattle.std.specs.List.{All}
 use Rattle.std.proofs.Math.Seq.{drop-cons}
 use Rattle.std.proofs.lemmas.Option.{slice_get_read, get_or_from_slice_get, slice_get_within}
@@ -16,7 +16,7 @@ use Rattle.point_set.specs.declared.figure.Area.{Area}
 use Rattle.point_set.specs.declared.figure.Figure.{Figure}
 use Rattle.point_set.specs.Edges.{OwnedEdge, owned_by, edges_of_lines, edges_of_area_rings, edges_of_areas, HasHand, IsAreaHand}
 use Rattle.point_set.specs.Location.{rings_of}
-use Rattle.point_set.specs.Rings.{is_same_position, edge_before, edges_after, edges_of}
+use Rattle.point_set.specs.Rings.{edges_of}
 use Rattle.point_set.specs.Shape.{IsWellShaped, positions_of_area}
 use Rattle.point_set.specs.Sides.{IsInsideHand, other_hand}
 use Rattle.point_set.specs.Validity.{IsAtPlace, IsValid, HasTooFewPoints, CrossesItself, too_few_points, ring_cross}
@@ -108,32 +108,6 @@ few_holes f shaped place area is =
     let own = one_of_sum positions_of_area f.areas place area is in
     let holes = count_by_length length area.holes (λ i d below. let long = ((area_shaped f shaped place area is).holes i d below).long in omega (arith, long)) in
     omega (arith, few, own, holes)
-
--- ---- the rows of a way, one position on
-before_rows : (owner : Owner) (side : Hand) (same : Bool) (last p : Pt) (rest : List Seg) → map (row_of owner side) (edge_before same last p rest) ≡ map (row_of owner side) (edge_before same last p []) ++ map (row_of owner side) rest
-before_rows owner side true last p rest = refl
-before_rows owner side false last p rest = refl
-
-way_step : (first rows : List Edge) (owner : Owner) (side : Hand) (last : Pt) (others : List Pt) (i : ℕ) (d : Pt) → i < length others → first ≡ rows ++ map (row_of owner side) (edges_after last (drop i others)) → first ≡ (rows ++ map (row_of owner side) (edge_before (is_same_position last (get_or others i d)) last (get_or others i d) [])) ++ map (row_of owner side) (edges_after (get_or others i d) (drop (i + 1) others))
-way_step first rows owner side last others i d below h =
-    let p = get_or others i d in
-    let rest = edges_after p (drop (i + 1) others) in
-    h ∙ ap (λ left. rows ++ map (row_of owner side) (edges_after last left)) (drop-cons others i d below ∙ ap (λ n. p ∷ drop n others) (sym (add-one i)))
-    ∙ ap (λ z. rows ++ z) (before_rows owner side (is_same_position last p) last p rest)
-    ∙ sym (append_assoc rows (map (row_of owner side) (edge_before (is_same_position last p) last p [])) (map (row_of owner side) rest))
-
-pub way_kept : (first rows : List Edge) (owner : Owner) (side : Hand) (last : Pt) (others : List Pt) (i : ℕ) (d : Pt) → i < length others → is_same_position last (get_or others i d) ≡ true → first ≡ rows ++ map (row_of owner side) (edges_after last (drop i others)) → first ≡ rows ++ map (row_of owner side) (edges_after (get_or others i d) (drop (i + 1) others))
-way_kept first rows owner side last others i d below same h =
-    let p = get_or others i d in
-    way_step first rows owner side last others i d below h
-    ∙ ap (λ b. (rows ++ map (row_of owner side) (edge_before b last p [])) ++ map (row_of owner side) (edges_after p (drop (i + 1) others))) same
-    ∙ ap (λ z. z ++ map (row_of owner side) (edges_after p (drop (i + 1) others))) (append-nil rows)
-
-pub way_pushed : (first rows : List Edge) (owner : Owner) (side : Hand) (last : Pt) (others : List Pt) (i : ℕ) (d : Pt) → i < length others → is_same_position last (get_or others i d) ≡ false → first ≡ rows ++ map (row_of owner side) (edges_after last (drop i others)) → first ≡ (rows ++ row_of owner side (record { a = last; b = get_or others i d }) ∷ []) ++ map (row_of owner side) (edges_after (get_or others i d) (drop (i + 1) others))
-way_pushed first rows owner side last others i d below apart h =
-    let p = get_or others i d in
-    way_step first rows owner side last others i d below h
-    ∙ ap (λ b. (rows ++ map (row_of owner side) (edge_before b last p [])) ++ map (row_of owner side) (edges_after p (drop (i + 1) others))) apart
 
 -- ---- what a pass reads
 pub item_at : {X : Type 0} (items xs : List X) (i : ℕ) (x : X) → items ≡ xs → i < length items → x ≡ get_or items i x → IsAtPlace xs i x
