@@ -43,14 +43,14 @@ cone_pointed : (v : Point) {d e : Direction} → ArePointed d e → ¬ IsInCone 
 cone_pointed v n c = n (zero_sum (cone_sum c) (ap (λ z. c.times *ℤ z) (shift_self v) ∙ *ℤ-zero c.times) (ap (λ z. c.times *ℤ z) (rise_self v) ∙ *ℤ-zero c.times))
 
 -- the direction from v to a point between the two
-toward : {v : Point} {d e : Direction} {a : Point} → ArePointed d e → IsInCone v d e a → Direction
+pub toward : {v : Point} {d e : Direction} {a : Point} → ArePointed d e → IsInCone v d e a → Direction
 toward {v} {d} {e} {a} n c = record { x = c.times *ℤ shift v a; y = c.times *ℤ rise v a; moves = λ z. n (zero_sum (cone_sum c) z.0 z.1) }
 
 toward_sum : {v : Point} {d e : Direction} {a : Point} (n : ArePointed d e) (c : IsInCone v d e a) → IsSum d e (toward n c).x (toward n c).y
 unfolding toward
 toward_sum n c = cone_sum c
 
-toward_is : {v : Point} {d e : Direction} {a : Point} (n : ArePointed d e) (c : IsInCone v d e a) → IsInCone v (toward n c) (toward n c) a
+pub toward_is : {v : Point} {d e : Direction} {a : Point} (n : ArePointed d e) (c : IsInCone v d e a) → IsInCone v (toward n c) (toward n c) a
 unfolding toward
 toward_is {v} {d} {e} {a} n c = record {
   i = pos 1;
@@ -325,7 +325,7 @@ module _ (area : Area) (shaped : IsAreaShaped area) (v : Point) (r s : Direction
       level z (inl same) = by_way_of (back r) d e (to_back same d in_d) (to_back same e in_e)
       level z (inr n) = half_turn z n d e in_d in_e
 
--- ---- the germ at a point that is on no edge
+-- ---- the germ at a point from which no edge runs
 bare_clear : (v : Point) (d e : Direction) (edges : List Seg) → is_on_edges v edges ≡ false → AreClear v d e edges
 bare_clear v d e [] off = tt
 bare_clear v d e (f ∷ edges) off =
@@ -379,13 +379,16 @@ quarter_apart d e z k = go d.x d.y e.x e.y (moving d) (moving e) z k
         ⊞ scaled (minus (var 0 ⊗ var 3 ⊖ var 1 ⊗ var 2)) (same (var 0 ⊗ var 3 ⊖ var 1 ⊗ var 2) (num (pos 0)) e)
         ⊞ scaled (minus (minus (var 1) ⊗ var 3 ⊖ var 0 ⊗ var 2)) (same (minus (var 1) ⊗ var 3 ⊖ var 0 ⊗ var 2) (num (pos 0)) f)) refl
 
-pub same_off_edges : (area : Area) → IsAreaShaped area → (v : Point) → is_on_edges v (edges_of_rings (rings_of area)) ≡ false → (d e : Direction) (g h : Loc) → IsGerm area v d g → IsGerm area v e h → g ≡ h
-same_off_edges area shaped v off d e = by_sign (bend_of d e) (λ n. bent d e (<ℤ_apart n)) level (λ p. bent d e (pos_nonzero p))
+pub same_where_clear : (area : Area) → IsAreaShaped area → (v : Point) → ((d e : Direction) → ArePointed d e → AreClear v d e (edges_of_rings (rings_of area))) → (d e : Direction) (g h : Loc) → IsGerm area v d g → IsGerm area v e h → g ≡ h
+same_where_clear area shaped v clear d e = by_sign (bend_of d e) (λ n. bent d e (<ℤ_apart n)) level (λ p. bent d e (pos_nonzero p))
   where
     bent : (d e : Direction) → ¬ (bend_of d e ≡ pos 0) → HaveOneGerm area v d e
-    bent d e n = germ_same area shaped v d e (cone_pointed v (bent_pointed d e n)) (bare_clear v d e (edges_of_rings (rings_of area)) off)
+    bent d e n = let pointed = bent_pointed d e n in germ_same area shaped v d e (cone_pointed v pointed) (clear d e pointed)
 
     level : bend_of d e ≡ pos 0 → HaveOneGerm area v d e
     level z g h is_g is_h =
         let k = germ_exists area shaped v (quarter d) in
         bent d (quarter d) (quarter_bends d) g k.germ is_g k.is ∙ bent (quarter d) e (quarter_apart d e z) k.germ h k.is is_h
+
+pub same_off_edges : (area : Area) → IsAreaShaped area → (v : Point) → is_on_edges v (edges_of_rings (rings_of area)) ≡ false → (d e : Direction) (g h : Loc) → IsGerm area v d g → IsGerm area v e h → g ≡ h
+same_off_edges area shaped v off = same_where_clear area shaped v (λ d e _. bare_clear v d e (edges_of_rings (rings_of area)) off)

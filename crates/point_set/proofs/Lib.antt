@@ -9,6 +9,7 @@ pub mod Germs
 pub mod GermEdges
 pub mod GermAreas
 pub mod GermSectors
+pub mod RaySectors
 pub mod SidesRing
 pub mod SidesGerm
 pub mod SidesBeside

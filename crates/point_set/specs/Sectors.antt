@@ -1,7 +1,10 @@
 -- The sectors between neighbouring directions, a sector's middle, and the sectors that are free of an area's edges.
 use Rattle.std.specs.Prelude.{◌≡◌, true, ℕ, ◌+◌, ◌%◌, ℤ, pos, ◌+ℤ◌, ◌-ℤ◌, ◌*ℤ◌, neg_ℤ, ◌<ℤ◌, ◌≤ℤ◌, ◌⊎◌, List, [], ◌∷◌, length}
+use Rattle.std.specs.List.{AllPairs, Any}
+use Rattle.std.specs.declared.cmp.Ordering.TheVariants.{Less}
 use Rattle.plane_exact.specs.Plane.{Point}
 use Rattle.plane_exact.specs.Places.{point_of}
+use Rattle.plane_exact.specs.Orders.{compare_angles}
 use Rattle.plane_exact.specs.declared.dir.Dir.{Dir}
 use Rattle.plane_exact.specs.declared.point.Seg.{Seg}
 use Rattle.point_set.specs.declared.figure.Area.{Area}
@@ -44,6 +47,14 @@ abbrev pub HasNoEdgeWithin : Area → Point → Direction → Direction → Type
 HasNoEdgeWithin area v r s =
     (place : ℕ) (f : Seg) → IsAtPlace (edges_of_rings (rings_of area)) place f → is_on_edge v f ≡ true
     → (t : Direction) → IsStrictlyWithin r s t → (¬ IsInCone v t t (point_of f.a)) × (¬ IsInCone v t t (point_of f.b))
+
+-- The rays of edges at a point: directions in the order of their angles, each direction once; from v every edge that v is on
+-- runs along one of them towards each of its ends that isn't v.
+pub record AreRaysAt (v : Point) (edges : List Seg) (rays : List Dir) : Type 0 where
+  pub ascending : AllPairs (λ d e. compare_angles d e ≡ Less) rays
+  pub whole :
+      (place : ℕ) (f : Seg) → IsAtPlace edges place f → is_on_edge v f ≡ true → (t : Direction)
+      → IsInCone v t t (point_of f.a) ⊎ IsInCone v t t (point_of f.b) → Any (λ ray. PointSameWay t (direction_of ray)) rays
 
 -- The middle of the sector from r to s: the sum of the two where s is to the left of r, else r turned left by a quarter.
 pub record IsMiddleBetween (r s m : Direction) : Type 0 where
