@@ -194,11 +194,14 @@ dot_of v d a = (d.x *ℤ shift v a) +ℤ (d.y *ℤ rise v a)
 pub is_toward : Point → Direction → Point → Bool
 is_toward v d a = int_eq (cross_of v d a) (pos 0) && int_lt (pos 0) (dot_of v d a)
 
+pub squares : (x y : ℤ) → ¬ ((x ≡ pos 0) × (y ≡ pos 0)) → pos 0 <ℤ ((x *ℤ x) +ℤ (y *ℤ y))
+squares x y moves = by_sign x
+    (λ h. pos-+-nonneg (square_pos x (<ℤ_apart h)) (square_nonneg y))
+    (λ z. nonneg-+-pos (square_nonneg x) (square_pos y (λ k. moves (z, k))))
+    (λ h. pos-+-nonneg (square_pos x (pos_nonzero h)) (square_nonneg y))
+
 pub moving : (d : Direction) → pos 0 <ℤ ((d.x *ℤ d.x) +ℤ (d.y *ℤ d.y))
-moving d = by_sign d.x
-    (λ h. pos-+-nonneg (square_pos d.x (<ℤ_apart h)) (square_nonneg d.y))
-    (λ z. nonneg-+-pos (square_nonneg d.x) (square_pos d.y (λ k. d.moves (z, k))))
-    (λ h. pos-+-nonneg (square_pos d.x (pos_nonzero h)) (square_nonneg d.y))
+moving d = squares d.x d.y d.moves
 
 pub cone_toward : (v : Point) (d : Direction) (a : Point) → cross_of v d a ≡ pos 0 → pos 0 <ℤ dot_of v d a → IsInCone v d d a
 unfolding cross_of dot_of

@@ -17,6 +17,7 @@ use Rattle.point_set.specs.Germ.{Direction, IsGerm, IsInCone}
 use Rattle.point_set.specs.Sectors.{bend_of, PointSameWay, IsStrictlyWithin, HasNoEdgeWithin}
 use Rattle.point_set.proofs.GermEdges.{AreClear, shift_self, rise_self, moving}
 use Rattle.point_set.proofs.GermAreas.{germ_exists, germ_same, clear_from}
+use Rattle.point_set.proofs.ParityFlip.{clash_lt}
 
 -- ---- between two directions
 -- (x, y) is i·d + j·e, for i and j of at least 0 that aren't both 0
@@ -183,11 +184,11 @@ same_or_opposite r s z = by_sign (dot_of_ways r s) (λ h. inr (λ q. not_ahead (
     not_ahead h q = let k = same_ahead r s q in omega (arith, linear, h, k)
 
 -- ---- the direction opposite to r
+turned : (a : ℤ) → neg_ℤ a ≡ pos 0 → a ≡ pos 0
+turned a h = omega (arith, linear, h)
+
 back : Direction → Direction
 back r = record { x = neg_ℤ r.x; y = neg_ℤ r.y; moves = λ z. r.moves (turned r.x z.0, turned r.y z.1) }
-  where
-    turned : (a : ℤ) → neg_ℤ a ≡ pos 0 → a ≡ pos 0
-    turned a h = omega (arith, linear, h)
 
 -- no direction between back r and one off r's way points r's way
 back_stays : (r d : Direction) → ¬ PointSameWay r d → (t : Direction) → IsSum d (back r) t.x t.y → ¬ PointSameWay r t
@@ -248,20 +249,17 @@ middle_right r s h = go r.x r.y s.x s.y h
         (λ denied. denied ⊞ less (var 0 ⊗ var 3 ⊖ var 1 ⊗ var 2) (num (pos 0)) h) refl
 
 -- ---- what lies strictly within, by the kind of the sector
-clash : {z : ℤ} → z <ℤ pos 0 → pos 0 <ℤ z → ⊥
-clash {z} h k = omega (arith, linear, h, k)
-
 within_left : {r s t : Direction} → pos 0 <ℤ bend_of r s → pos 0 <ℤ bend_of r t → pos 0 <ℤ bend_of t s → IsStrictlyWithin r s t
 within_left h k l = record {
   left = λ _. (k, l);
-  right = λ n. absurd (clash n h);
+  right = λ n. absurd (clash_lt n h);
   opposite = λ z _. absurd (<ℤ_apart h (sym z));
   same = λ q _. <ℤ_apart h (sym (no_bend q));
 }
 
 within_right : {r s t : Direction} → bend_of r s <ℤ pos 0 → (pos 0 <ℤ bend_of r t) ⊎ (pos 0 <ℤ bend_of t s) → IsStrictlyWithin r s t
 within_right h k = record {
-  left = λ p. absurd (clash h p);
+  left = λ p. absurd (clash_lt h p);
   right = λ _. k;
   opposite = λ z _. absurd (<ℤ_apart h z);
   same = λ q _. <ℤ_apart h (no_bend q);
@@ -354,9 +352,6 @@ bent_pointed d e n q = <ℤ_apart q.some (sym (both (none_first d.x d.y e.x e.y 
 -- d turned left by a quarter
 quarter : Direction → Direction
 quarter d = record { x = neg_ℤ d.y; y = d.x; moves = λ z. d.moves (z.1, turned d.y z.0) }
-  where
-    turned : (a : ℤ) → neg_ℤ a ≡ pos 0 → a ≡ pos 0
-    turned a h = omega (arith, linear, h)
 
 quarter_bends : (d : Direction) → ¬ (bend_of d (quarter d) ≡ pos 0)
 unfolding bend_of quarter

@@ -4,6 +4,7 @@ use Rattle.std.specs.Prelude.{int_lt}
 use Rattle.std.proofs.lemmas.Int.{by_lt_z}
 use Rattle.std.specs.Bool.{MatchBool}
 use Rattle.std.proofs.lemmas.Bool.Decides.{when_true, when_false}
+use Rattle.std.proofs.Math.Bool.{not-not}
 use lib.IntN.{*ℤ-zero}
 use lib.Signed.{<ℤ_irrefl, <ℤ-≤ℤ_trans}
 use Rattle.whole_algebra.proofs.Laws.{linear}
@@ -23,6 +24,10 @@ use Rattle.point_set.proofs.Parity.{crosses_between, is_beside, heights, low_sta
 abbrev pub HasSign : Bool → ℤ → Type 0
 HasSign s z = MatchBool s (pos 0 <ℤ z) (z <ℤ pos 0)
 
+pub signed_nonzero : (s : Bool) (z : ℤ) → HasSign s z → ¬ (z ≡ pos 0)
+signed_nonzero true z h = pos_nonzero h
+signed_nonzero false z h = <ℤ_apart h
+
 -- the segment from p to q cuts the edge from a to b: each has its ends strictly on two sides of the other. The sign tells the side of p
 pub record IsCut (s : Bool) (a b p q : Point) : Type 0 where
   pub first : HasSign s (turn a b p)
@@ -37,14 +42,14 @@ crossing_of true false s = s
 crossing_of false true s = not s
 crossing_of false false s = false
 
-clash_lt : (z : ℤ) → z <ℤ pos 0 → pos 0 <ℤ z → ⊥
-clash_lt z h k = omega (arith, linear, h, k)
+pub clash_lt : {z : ℤ} → z <ℤ pos 0 → pos 0 <ℤ z → ⊥
+clash_lt {z} h k = omega (arith, linear, h, k)
 
 pub test_pos : (s : Bool) (z : ℤ) → HasSign s z → int_lt (pos 0) z ≡ s
-test_pos s z h = same_tests (int_lt (pos 0) z) s (tells_lt (pos 0) z) h (λ l k. clash_lt z k l) (λ l k. <ℤ_irrefl (<ℤ-≤ℤ_trans k l))
+test_pos s z h = same_tests (int_lt (pos 0) z) s (tells_lt (pos 0) z) h (λ l k. clash_lt k l) (λ l k. <ℤ_irrefl (<ℤ-≤ℤ_trans k l))
 
 test_neg : (s : Bool) (z : ℤ) → HasSign s z → int_lt z (pos 0) ≡ not s
-test_neg true z h = same_tests (int_lt z (pos 0)) false {R = ⊥} (tells_lt z (pos 0)) h (λ l k. clash_lt z l k) (λ l k. k)
+test_neg true z h = same_tests (int_lt z (pos 0)) false {R = ⊥} (tells_lt z (pos 0)) h (λ l k. clash_lt l k) (λ l k. k)
 test_neg false z h = same_tests (int_lt z (pos 0)) true {S = ⊥} (tells_lt z (pos 0)) h (λ l k. k) (λ l k. <ℤ_irrefl (<ℤ-≤ℤ_trans k l))
 
 pub crosses_by_sign : (l m s : Bool) (t : ℤ) → HasSign s t → crosses_from l m t ≡ crossing_of l m s
@@ -53,9 +58,15 @@ crosses_by_sign true false s t h = test_pos s t h
 crosses_by_sign false true s t h = test_neg s t h
 crosses_by_sign false false s t h = refl
 
-pub not_not : (s : Bool) → not (not s) ≡ s
-not_not true = refl
-not_not false = refl
+-- a point on the edge's line isn't counted
+pub crosses_none : (l m : Bool) (t : ℤ) → t ≡ pos 0 → crosses_from l m t ≡ false
+crosses_none l m t h = ap (crosses_from l m) h ∙ none l m
+  where
+    none : (l m : Bool) → crosses_from l m (pos 0) ≡ false
+    none true true = refl
+    none true false = refl
+    none false true = refl
+    none false false = refl
 
 beside_by_sign : (l m s : Bool) (t : ℤ) → HasSign s t → beside_by l m t ≡ (not l && (m && not s))
 beside_by_sign l m s t h = ap (λ z. not l && (m && z)) (test_neg s t h)
@@ -125,7 +136,7 @@ pub turned_cut : (s : Bool) {a b p q : Point} → IsCut s a b p q → IsCut (not
 turned_cut s {a} {b} {p} {q} cut = record {
   first = turned_pos s (turn a b p) (turn b a p) (turn_swap a b p) cut.first;
   second = turned_pos (not s) (turn a b q) (turn b a q) (turn_swap a b q) cut.second;
-  third = subst (λ z. HasSign z (turn p q b)) (sym (not_not s)) cut.fourth;
+  third = subst (λ z. HasSign z (turn p q b)) (sym (not-not s)) cut.fourth;
   fourth = cut.third;
 }
 
@@ -156,7 +167,7 @@ flip s a b p q level cut =
     crosses_q = sym (crosses_by_sign (is_low q a) (is_low q b) (not s) (turn a b q) cut.second)
 
     beside_a : (not (is_low p a) && (is_low q a && s)) ≡ is_beside p q a
-    beside_a = sym (beside_by_sign (is_low p a) (is_low q a) (not s) (turn p q a) cut.third ∙ ap (λ z. not (is_low p a) && (is_low q a && z)) (not_not s))
+    beside_a = sym (beside_by_sign (is_low p a) (is_low q a) (not s) (turn p q a) cut.third ∙ ap (λ z. not (is_low p a) && (is_low q a && z)) (not-not s))
 
     beside_b : (not (is_low p b) && (is_low q b && not s)) ≡ is_beside p q b
     beside_b = sym (beside_by_sign (is_low p b) (is_low q b) s (turn p q b) cut.fourth)
@@ -165,7 +176,7 @@ flip s a b p q level cut =
 pub swapped_cut : (s : Bool) {a b p q : Point} → IsCut s a b p q → IsCut (not s) a b q p
 swapped_cut s {a} {b} {p} {q} cut = record {
   first = cut.second;
-  second = subst (λ z. HasSign z (turn a b p)) (sym (not_not s)) cut.first;
+  second = subst (λ z. HasSign z (turn a b p)) (sym (not-not s)) cut.first;
   third = turned_pos (not s) (turn p q a) (turn q p a) (turn_swap p q a) cut.third;
   fourth = turned_pos s (turn p q b) (turn q p b) (turn_swap p q b) cut.fourth;
 }

@@ -6,6 +6,7 @@ use Rattle.std.specs.Ordering.{int_eq}
 use Rattle.std.proofs.lemmas.Bool.{or_parts, or_from, true≢false, and_parts, false_from_ne_true}
 use Rattle.std.proofs.lemmas.List.Folds.{list_any-append}
 use Rattle.std.proofs.lemmas.Bool.Decides.{Decides-int_eq}
+use Rattle.std.proofs.Math.Bool.{not-not}
 use Rattle.whole_algebra.proofs.Signs.{pos_nonzero, <ℤ_apart}
 use Rattle.plane_exact.proofs.PlaneMix.{segment_flip, start_on_segment, end_on_segment}
 use Rattle.plane_exact.proofs.PlaneOn.{Decides-is_on_segment, mix_turn}
@@ -18,7 +19,7 @@ use Rattle.point_set.specs.Lines.{last_after}
 use Rattle.point_set.specs.Shape.{IsClosed}
 use Rattle.point_set.proofs.ParityTests.{differ_none, differ_self, differ_mix, differ_join}
 use Rattle.point_set.proofs.Parity.{AreApart, is_beside, parity}
-use Rattle.point_set.proofs.ParityFlip.{IsCut, flip, swapped_cut, turned_rise, not_not, cut_from_meet}
+use Rattle.point_set.proofs.ParityFlip.{IsCut, flip, swapped_cut, turned_rise, cut_from_meet}
 
 -- ---- a test on positions changes evenly often along a closed ring
 -- exactly one end of an odd number of the edges passes the test
@@ -151,7 +152,7 @@ odd_flips s p q ring closed before e after is cut miss_before miss_after = level
     at_ring v w = subst (Turns true v w) (sym is)
 
     turned : is_odd q (edges_of ring) ≡ not (is_odd p (edges_of ring)) → not (is_odd q (edges_of ring)) ≡ is_odd p (edges_of ring)
-    turned h = ap not h ∙ not_not (is_odd p (edges_of ring))
+    turned h = ap not h ∙ not-not (is_odd p (edges_of ring))
 
 pub misses_left : {p q : Point} (xs ys : List Seg) → Misses p q (xs ++ ys) → Misses p q xs
 misses_left xs ys miss = record {

@@ -1,8 +1,9 @@
 -- Tests on whole numbers and what they tell, and the laws of 'exactly one of the two'.
-use Rattle.std.proofs.Common.{◌≡◌, ℤ, ◌<ℤ◌, ◌≤ℤ◌, Bool, true, false, not, ap, refl, sym, ◌∙◌, arith}
+use Rattle.std.proofs.Common.{◌≡◌, ℤ, ◌<ℤ◌, ◌≤ℤ◌, Bool, true, false, ap, refl, sym, ◌∙◌, arith}
 use Rattle.std.specs.Prelude.{int_le, int_lt}
 use Rattle.std.specs.Bool.{MatchBool}
 use Rattle.std.proofs.lemmas.Int.{ints}
+use Rattle.std.proofs.Math.Bool.{not-not}
 use Rattle.point_set.specs.Rings.{differ}
 
 -- ---- tests and what they tell
@@ -38,11 +39,7 @@ differ_comm false true = refl
 differ_comm false false = refl
 
 pub differ_assoc : (b c d : Bool) → differ (differ b c) d ≡ differ b (differ c d)
-differ_assoc true true d = not_not d
-  where
-    not_not : (d : Bool) → d ≡ not (not d)
-    not_not true = refl
-    not_not false = refl
+differ_assoc true true d = sym (not-not d)
 differ_assoc true false d = refl
 differ_assoc false c d = refl
 

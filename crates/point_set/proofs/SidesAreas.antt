@@ -24,7 +24,7 @@ use Rattle.point_set.specs.Validity.{IsAtPlace, IsOnEdge, RingsShareSegment, Has
 use Rattle.point_set.specs.Germ.{Direction, IsAway, HoldsAlong, IsGerm}
 use Rattle.point_set.specs.Sides.{slope, PointsTo, other_hand, IsInsideHand}
 use Rattle.point_set.specs.Edges.{IsOnEdgeAlone, IsAreaHand}
-use Rattle.point_set.proofs.ParityFlip.{HasSign}
+use Rattle.point_set.proofs.ParityFlip.{HasSign, signed_nonzero}
 use Rattle.point_set.proofs.ParityRing.{Misses, inside_stays, some_same}
 use Rattle.point_set.proofs.Room.{IsNear, HoldBoth, HasRoom, room, near_mix}
 use Rattle.point_set.proofs.Germs.{away_point, away_point_is, away_near, far_for}
@@ -32,7 +32,6 @@ use Rattle.point_set.proofs.GermEdges.{shift_self, rise_self, on_true}
 use Rattle.point_set.proofs.SidesRing.{off_by_places, off_edge}
 use Rattle.point_set.proofs.SidesGerm.{edge_turn, edge_turn_on}
 use Rattle.point_set.proofs.SidesBeside.{left_way, right_way, left_way_slope, right_way_slope, held_at, side_of}
-use Rattle.point_set.proofs.SidesStrip.{signed_nonzero}
 
 -- ---- near a point that is on no edge of a ring, all points are inside it or none is
 near_self : (v : Point) (n : ℕ) → IsNear v n v

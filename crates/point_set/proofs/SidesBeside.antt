@@ -1,8 +1,8 @@
 -- On one hand of an edge of a ring, near a point strictly between its ends, all points are inside the ring or none is, and on the other hand it is the other way round.
 use Rattle.std.proofs.Common.{◌≡◌, ℕ, zero, suc, ◌+◌, ◌<◌, ℤ, pos, ◌+ℤ◌, ◌-ℤ◌, ◌*ℤ◌, neg_ℤ, ◌<ℤ◌, Bool, true, false, not, List, [], ◌∷◌, ◌++◌, take, drop, ap, refl, sym, ◌∙◌, subst, arith}
+use Rattle.std.proofs.Math.Bool.{not-not}
 use Rattle.whole_algebra.proofs.Laws.{linear, *ℤ_one}
 use Rattle.whole_algebra.proofs.Polynomials.{var, num, ◌⊕◌, ◌⊖◌, ◌⊗◌, minus, identity}
-use Rattle.whole_algebra.proofs.Signs.{by_sign, <ℤ_apart, pos_nonzero, square_pos, square_nonneg, pos-+-nonneg, nonneg-+-pos}
 use Rattle.plane_exact.proofs.PlaneMix.{start_on_segment}
 use Rattle.plane_exact.specs.Plane.{Point, IsSamePoint, IsOnSegment, IsStrictlyBetween}
 use Rattle.plane_exact.specs.Places.{point_of}
@@ -13,11 +13,11 @@ use Rattle.point_set.specs.Shape.{IsClosed}
 use Rattle.point_set.specs.Validity.{IsAtPlace}
 use Rattle.point_set.specs.Germ.{Direction, IsAway, HoldsAlong}
 use Rattle.point_set.specs.Sides.{slope}
-use Rattle.point_set.proofs.ParityFlip.{HasSign, not_not}
+use Rattle.point_set.proofs.ParityFlip.{HasSign}
 use Rattle.point_set.proofs.ParityRing.{Misses, inside_stays, inside_flips, some_same}
 use Rattle.point_set.proofs.Room.{IsNear, HoldBoth, HasRoom, room, near_mix}
 use Rattle.point_set.proofs.Germs.{away_point, away_point_is, away_near, far_for, between_in_cone}
-use Rattle.point_set.proofs.GermEdges.{AreJoined}
+use Rattle.point_set.proofs.GermEdges.{AreJoined, squares}
 use Rattle.point_set.proofs.SidesRing.{IsSimple, off_others_by_places, split_at_place, off_edge}
 use Rattle.point_set.proofs.SidesGerm.{IsAlone, between_is_alone, sided_joined, cone_side, edge_turn, edge_turn_on}
 
@@ -41,12 +41,6 @@ right_way e apart = record {
   y = neg_ℤ (e.b.x -ℤ e.a.x);
   moves = λ h. apart (still e (omega (arith, linear, h.1)) h.0);
 }
-
-pub squares : (x y : ℤ) → ¬ ((x ≡ pos 0) × (y ≡ pos 0)) → pos 0 <ℤ ((x *ℤ x) +ℤ (y *ℤ y))
-squares x y moves = by_sign x
-    (λ h. pos-+-nonneg (square_pos x (<ℤ_apart h)) (square_nonneg y))
-    (λ z. nonneg-+-pos (square_nonneg x) (square_pos y (λ k. moves (z, k))))
-    (λ h. pos-+-nonneg (square_pos x (pos_nonzero h)) (square_nonneg y))
 
 left_slope : (x y : ℤ) → (x *ℤ x) -ℤ (y *ℤ neg_ℤ y) ≡ (x *ℤ x) +ℤ (y *ℤ y)
 left_slope x y = identity (var 0 ⊗ var 0 ⊖ var 1 ⊗ minus (var 1)) (var 0 ⊗ var 0 ⊕ var 1 ⊗ var 1) (x ∷ y ∷ []) refl
@@ -177,7 +171,7 @@ beside_at ring closed simple i e is v between = record { left = left_in; beside 
 
     right_settled : (l : ℕ) → reach < suc l → is_inside (away_point v right l) ring ≡ not left_in
     right_settled l far =
-        sym (not_not (is_inside (away_point v right l) ring))
+        sym (not-not (is_inside (away_point v right l) ring))
         ∙ ap not (sym (flip_at ring closed one between apart r l (omega (arith, far)) (omega (arith, far))) ∙ left_settled l (omega (arith, far)))
 
     by_sides : (s : Bool) (d : Direction) → HasSign s (slope e d) → HoldsAlong (λ q. is_inside q ring ≡ by_hand s left_in) v d

@@ -1,25 +1,25 @@
 -- The two sides of an edge of a ring at a point strictly between its ends: on one hand all points near it are inside the ring, or none is, and on the other hand it is the other way round.
-use Rattle.std.proofs.Common.{◌≡◌, ◌⊎◌, inl, inr, ℕ, ℤ, pos, ◌+ℤ◌, ◌-ℤ◌, ◌*ℤ◌, ◌<ℤ◌, ◌≤ℤ◌, Bool, true, false, List, [], ◌∷◌, ap, refl, sym, ◌∙◌, subst, arith}
+use Rattle.std.proofs.Common.{◌≡◌, ◌⊎◌, inl, inr, ℕ, ℤ, pos, ◌+ℤ◌, ◌-ℤ◌, ◌*ℤ◌, ◌<ℤ◌, ◌≤ℤ◌, Bool, true, false, List, [], ◌∷◌, ap, refl, sym, ◌∙◌, subst}
 use Rattle.std.specs.Prelude.{slice_get}
 use Rattle.std.proofs.lemmas.Bool.{cases_eq}
 use lib.IntN.{*ℤ-zero}
-use Rattle.whole_algebra.proofs.Laws.{linear}
 use Rattle.whole_algebra.proofs.Polynomials.{var, num, ◌⊕◌, ◌⊖◌, ◌⊗◌, minus}
 use Rattle.whole_algebra.proofs.Certificates.{natural, positive, less, same, same_from, less_by, whole, scaled, ◌⊞◌, ◌⊠◌}
-use Rattle.whole_algebra.proofs.Signs.{<ℤ_apart, pos_nonzero, pos-*-pos, zero_factor}
-use Rattle.plane_exact.proofs.PlaneTurn.{PolyPoint, point_at, turn_poly, ◌then◌}
+use Rattle.whole_algebra.proofs.Signs.{pos_nonzero, pos-*-pos, zero_factor}
+use Rattle.plane_exact.proofs.PlaneTurn.{PolyPoint, point_at, turn_poly, ◌then◌, OneSign-zero, shift_same, rise_same}
 use Rattle.plane_exact.proofs.PlaneMix.{on_from_strictly_between}
 use Rattle.plane_exact.proofs.PlaneOn.{Decides-is_on_segment, mix_turn, mix_shift_start, mix_shift_end, mix_rise_start, mix_rise_end, same_from_steps}
+use Rattle.plane_exact.proofs.PlaneSame.{same_refl, same_sym}
 use Rattle.plane_exact.specs.Plane.{Point, IsSamePoint, IsStrictlyBetween, turn, rise, shift}
 use Rattle.plane_exact.specs.Places.{point_of}
 use Rattle.plane_exact.specs.declared.point.Seg.{Seg}
 use Rattle.point_set.specs.Validity.{IsAtPlace, IsOnEdge}
 use Rattle.point_set.specs.Germ.{Direction, IsInCone}
 use Rattle.point_set.specs.Sides.{slope}
-use Rattle.point_set.proofs.ParityFlip.{HasSign}
+use Rattle.point_set.proofs.ParityFlip.{HasSign, signed_nonzero}
 use Rattle.point_set.proofs.ParityRing.{some_same}
 use Rattle.point_set.proofs.Room.{turn_ends}
-use Rattle.point_set.proofs.GermEdges.{AreJoined, joined_between}
+use Rattle.point_set.proofs.GermEdges.{AreJoined, joined_between, shift_self, rise_self}
 use Rattle.point_set.proofs.GermAreas.{clear_from}
 use Rattle.point_set.proofs.SidesRing.{IsSimple, alone_within}
 
@@ -27,25 +27,17 @@ use Rattle.point_set.proofs.SidesRing.{IsSimple, alone_within}
 none_of_product : (k t x y : ℤ) → pos 0 <ℤ t → k *ℤ x ≡ t *ℤ y → x ≡ pos 0 → y ≡ pos 0
 none_of_product k t x y ht e h = zero_factor t y (pos_nonzero ht) (sym e ∙ ap (λ z. k *ℤ z) h ∙ *ℤ-zero k)
 
-same_steps : {a b : Point} → IsSamePoint a b → (shift a b ≡ pos 0) × (rise a b ≡ pos 0)
-unfolding shift rise
-same_steps {a} {b} h = let across = h.across in let above = h.above in (omega (arith, linear, across), omega (arith, linear, above))
-
-same_steps_back : {a b : Point} → IsSamePoint a b → (shift b a ≡ pos 0) × (rise b a ≡ pos 0)
-unfolding shift rise
-same_steps_back {a} {b} h = let across = h.across in let above = h.above in (omega (arith, linear, across), omega (arith, linear, above))
-
 pub between_not_start : {a b m : Point} → IsStrictlyBetween a b m → ¬ IsSamePoint a m
 between_not_start {a} {b} {m} h same =
     h.apart (same_from_steps a b
-    (none_of_product h.mix.times h.t (shift a m) (shift a b) h.some_second (mix_shift_start h.mix) (same_steps same).0)
-    (none_of_product h.mix.times h.t (rise a m) (rise a b) h.some_second (mix_rise_start h.mix) (same_steps same).1))
+    (none_of_product h.mix.times h.t (shift a m) (shift a b) h.some_second (mix_shift_start h.mix) ((OneSign-zero (shift_same (same_refl a) (same_sym same))).1 (shift_self a)))
+    (none_of_product h.mix.times h.t (rise a m) (rise a b) h.some_second (mix_rise_start h.mix) ((OneSign-zero (rise_same (same_refl a) (same_sym same))).1 (rise_self a))))
 
 pub between_not_end : {a b m : Point} → IsStrictlyBetween a b m → ¬ IsSamePoint b m
 between_not_end {a} {b} {m} h same =
     h.apart (same_from_steps a b
-    (none_of_product h.mix.times h.s (shift m b) (shift a b) h.some_first (mix_shift_end h.mix) (same_steps_back same).0)
-    (none_of_product h.mix.times h.s (rise m b) (rise a b) h.some_first (mix_rise_end h.mix) (same_steps_back same).1))
+    (none_of_product h.mix.times h.s (shift m b) (shift a b) h.some_first (mix_shift_end h.mix) ((OneSign-zero (shift_same (same_sym same) (same_refl b))).1 (shift_self b)))
+    (none_of_product h.mix.times h.s (rise m b) (rise a b) h.some_first (mix_rise_end h.mix) ((OneSign-zero (rise_same (same_sym same) (same_refl b))).1 (rise_self b))))
 
 -- ---- the side of an edge's line on which a point is, from a point of the line
 unfoldable pub edge_turn : Seg → Point → ℤ
@@ -87,10 +79,6 @@ cone_side s e {v} {d} {d'} {m} on h h' c =
     signed_sum s (c.times *ℤ v.w) c.i c.j (slope e d) (slope e d') (edge_turn e m) (pos-*-pos c.positive v.heavy) c.first c.second c.some
     (cone_turn c.times c.i c.j (e.b.x -ℤ e.a.x) (e.b.y -ℤ e.a.y) (shift v m) (rise v m) d.x d.y d'.x d'.y (edge_turn e m) v.w c.across c.above (turn_from e v m on))
     h h'
-
-signed_nonzero : (s : Bool) (z : ℤ) → HasSign s z → ¬ (z ≡ pos 0)
-signed_nonzero true z h = pos_nonzero h
-signed_nonzero false z h = <ℤ_apart h
 
 pub edge_turn_on : (e : Seg) {v : Point} → IsOnEdge e v → edge_turn e v ≡ pos 0
 unfolding edge_turn

@@ -2,6 +2,7 @@
 use Rattle.std.proofs.Common.{◌≡◌, ◌⊎◌, inl, inr, ℕ, zero, suc, ◌+◌, ◌<◌, ◌≤◌, ℤ, pos, ◌+ℤ◌, ◌-ℤ◌, ◌*ℤ◌, neg_ℤ, ◌<ℤ◌, Bool, true, false, not, List, [], ◌∷◌, ap, refl, sym, ◌∙◌, subst, arith}
 use Rattle.std.specs.Prelude.{slice_get}
 use Rattle.std.proofs.lemmas.Bool.{cases_eq, true≢false}
+use Rattle.std.proofs.Math.Bool.{not-not}
 use Rattle.whole_algebra.proofs.Laws.{linear}
 use Rattle.whole_algebra.proofs.Polynomials.{var, num, ◌⊕◌, ◌⊖◌, ◌⊗◌, minus, identity}
 use Rattle.whole_algebra.proofs.Certificates.{same, scaled, positive, impossible_by, ◌⊞◌, ◌⊠◌}
@@ -18,17 +19,17 @@ use Rattle.point_set.specs.Shape.{IsClosed}
 use Rattle.point_set.specs.Validity.{IsAtPlace, IsOnEdge}
 use Rattle.point_set.specs.Germ.{Direction, IsAway, HoldsAlong, IsInCone}
 use Rattle.point_set.specs.Sides.{slope}
-use Rattle.point_set.proofs.ParityFlip.{HasSign, not_not}
+use Rattle.point_set.proofs.ParityFlip.{HasSign, signed_nonzero}
 use Rattle.point_set.proofs.ParityRing.{some_same}
 use Rattle.point_set.proofs.Room.{AreParted, off_parted, positive_near, reach_of, IsNear, turn_by, turn_by_is, size_of}
 use Rattle.point_set.proofs.Germs.{away_point, away_point_is, away_near, far_for}
-use Rattle.point_set.proofs.GermEdges.{cone_toward, cross_of, dot_of}
+use Rattle.point_set.proofs.GermEdges.{cone_toward, cross_of, dot_of, squares}
 use Rattle.point_set.proofs.GermAreas.{toward_on}
 use Rattle.point_set.proofs.SidesRing.{IsSimple, alone_within, alone_at_joint, off_edge}
 use Rattle.point_set.proofs.SidesGerm.{edge_turn, edge_turn_on, between_not_start, between_not_end}
-use Rattle.point_set.proofs.SidesBeside.{IsBesideAt, HasBesideAt, beside_at, by_hand, left_way, right_way, left_way_slope, right_way_slope, side_of, squares, still}
+use Rattle.point_set.proofs.SidesBeside.{IsBesideAt, HasBesideAt, beside_at, by_hand, left_way, right_way, left_way_slope, right_way_slope, side_of, still}
 use Rattle.point_set.proofs.SidesParted.{ArePartedFrom}
-use Rattle.point_set.proofs.SidesStrip.{IsBeyond, strip, beyond_by_places, carried_over, turn_between, signed_nonzero, along_edge}
+use Rattle.point_set.proofs.SidesStrip.{IsBeyond, strip, beyond_by_places, carried_over, turn_between, along_edge}
 
 -- ---- near a point, what doesn't hold it is parted from any two points
 record HasPartedRoom (v : Point) (edges : List Seg) : Type 0 where
@@ -253,7 +254,7 @@ one_value {f} {v} {d} h k =
 
 pub by_hand_one : (s b c : Bool) → by_hand s b ≡ by_hand s c → b ≡ c
 by_hand_one true b c h = h
-by_hand_one false b c h = sym (not_not b) ∙ ap not h ∙ not_not c
+by_hand_one false b c h = sym (not-not b) ∙ ap not h ∙ not-not c
 
 -- near every point strictly between the ends of an edge the points on its left are inside the ring where b says so
 pub record IsBesideAll (ring : List Pt) (e : Seg) (b : Bool) : Type 0 where

@@ -3,6 +3,7 @@ use Rattle.std.proofs.Common.{◌≡◌, ◌⊎◌, inl, inr, ℕ, suc, ◌+◌,
 use Rattle.std.specs.Prelude.{slice_get}
 use Rattle.std.specs.Bool.{MatchBool}
 use Rattle.std.proofs.lemmas.Bool.{cases_eq}
+use Rattle.std.proofs.Math.Bool.{not-not}
 use lib.Signed.{<ℤ_irrefl, <ℤ-≤ℤ_trans}
 use Rattle.whole_algebra.proofs.Laws.{linear}
 use Rattle.whole_algebra.proofs.Polynomials.{var, num, ◌⊕◌, ◌⊖◌, ◌⊗◌, minus, identity}
@@ -20,7 +21,7 @@ use Rattle.point_set.specs.Germ.{Direction, IsAway, HoldsAlong}
 use Rattle.point_set.specs.Sides.{slope}
 use Rattle.point_set.proofs.ParityTests.{same_tests}
 use Rattle.point_set.proofs.Parity.{heights, level_by, tells_low, rise_p}
-use Rattle.point_set.proofs.ParityFlip.{HasSign, crossing_of, crosses_by_sign, not_not}
+use Rattle.point_set.proofs.ParityFlip.{HasSign, crossing_of, crosses_by_sign, crosses_none}
 use Rattle.point_set.proofs.ParityRing.{misses_start, some_same}
 use Rattle.point_set.proofs.Room.{Affine, at_point, positive_near, reach_of}
 use Rattle.point_set.proofs.Germs.{away_rise, away_near, far_for}
@@ -148,15 +149,6 @@ pub record IsRay (e : Seg) (p : Point) (s : Bool) (d : Direction) : Type 0 where
   pub side : HasSign s (slope e d)
   pub uncrossed : crossing_of (is_low p (point_of e.a)) (is_low p (point_of e.b)) s ≡ false
 
-crosses_none : (l m : Bool) (t : ℤ) → t ≡ pos 0 → crosses_from l m t ≡ false
-crosses_none l m t h = ap (crosses_from l m) h ∙ none l m
-  where
-    none : (l m : Bool) → crosses_from l m (pos 0) ≡ false
-    none true true = refl
-    none true false = refl
-    none false true = refl
-    none false false = refl
-
 crosses_own : (e : Seg) (p : Point) (s : Bool) (d : Direction) → IsRay e p s d → IsOnEdge e p → HoldsAlong (λ q. crosses q e ≡ crosses p e) p d
 unfolding edge_turn
 crosses_own e p s d ray on =
@@ -210,4 +202,4 @@ ray_counts ring simple i e is p between s d ray left h =
 
     twice : (s b : Bool) → by_hand s (by_hand s b) ≡ b
     twice true b = refl
-    twice false b = not_not b
+    twice false b = not-not b

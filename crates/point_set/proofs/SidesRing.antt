@@ -1,9 +1,10 @@
 -- The edges of a ring by their places: neighbours join, and no other two edges have a common point.
-use Rattle.std.proofs.Common.{◌≡◌, ◌⊎◌, inl, inr, ℕ, zero, suc, ◌+◌, ◌<◌, Bool, true, false, List, [], ◌∷◌, ◌++◌, take, drop, length, ap, refl, sym, ◌∙◌, subst, arith}
+use Rattle.std.proofs.Common.{◌≡◌, ◌⊎◌, inl, inr, ℕ, zero, suc, ◌<◌, Bool, true, false, List, [], ◌∷◌, ◌++◌, take, drop, length, ap, refl, sym, ◌∙◌, subst, arith}
 use Rattle.std.specs.Ordering.{int_eq}
 use Rattle.std.proofs.lemmas.Bool.{or_from, true≢false, and_from, false_from_ne_true, cases_order}
 use Rattle.std.proofs.lemmas.Bool.Decides.{Decides-int_eq}
 use Rattle.std.proofs.lemmas.Option.{slice_get_within}
+use Rattle.std.proofs.Math.Numerals.{add-one}
 use Rattle.whole_algebra.proofs.Laws.{*ℤ_one}
 use Rattle.plane_exact.proofs.PlaneMix.{end_on_segment}
 use Rattle.plane_exact.proofs.PlaneOn.{Decides-is_on_segment}
@@ -89,9 +90,6 @@ ring_is_simple (p ∷ others) closed uncrossed =
     uncrossed (record { i = i; j = j; earlier = before; e = e; f = f; e_is = is_e; f_is = is_f; p = v; on_e = on_e; on_f = on_f; unjoined = unjoined }))
 
 -- ---- where edges of such a ring meet
-plus_one : (i : ℕ) → i + 1 ≡ suc i
-plus_one i = omega arith
-
 at_start : (u w : Pt) (p : Point) → u ≡ w → IsSamePoint (point_of u) p → IsSamePoint (point_of w) p
 at_start u w p h = subst (λ v. IsSamePoint (point_of v) p) h
 
@@ -100,12 +98,12 @@ pub alone_within : {edges : List Seg} → IsSimple edges → (i j : ℕ) (e f : 
 alone_within {edges} s i j e f apart is_e is_f p not_a not_b on_e on_f = go (cases_order i j)
   where
     earlier : IsJoint edges i j e f p → ⊥
-    earlier (inl h) = not_b (at_start f.a e.b p (s.chained i e f is_e (subst (λ k. IsAtPlace edges k f) (h.0 ∙ plus_one i) is_f)) h.1)
+    earlier (inl h) = not_b (at_start f.a e.b p (s.chained i e f is_e (subst (λ k. IsAtPlace edges k f) (h.0 ∙ add-one i) is_f)) h.1)
     earlier (inr h) = not_a h.2
 
     later : IsJoint edges j i f e p → ⊥
     later (inl h) = not_a h.1
-    later (inr h) = not_b (at_start f.a e.b p (s.closed i e f (sym (plus_one i) ∙ h.1) is_e (subst (λ k. IsAtPlace edges k f) h.0 is_f)) h.2)
+    later (inr h) = not_b (at_start f.a e.b p (s.closed i e f (sym (add-one i) ∙ h.1) is_e (subst (λ k. IsAtPlace edges k f) h.0 is_f)) h.2)
 
     go : (i ≡ j) ⊎ ((i < j) ⊎ (j < i)) → ⊥
     go (inl h) = apart h
@@ -117,7 +115,7 @@ pub alone_at_joint : {edges : List Seg} → IsSimple edges → (i j : ℕ) (e f 
 alone_at_joint {edges} s i j e f g apart apart' is_e is_f is_g on_g = go (cases_order i j)
   where
     earlier : IsJoint edges i j e g (point_of e.b) → ⊥
-    earlier (inl h) = apart' (sym (plus_one i) ∙ sym h.0)
+    earlier (inl h) = apart' (sym (add-one i) ∙ sym h.0)
     earlier (inr h) = s.moving i e is_e h.2
 
     later : IsJoint edges j i g e (point_of e.b) → ⊥

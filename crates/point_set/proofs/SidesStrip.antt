@@ -20,7 +20,7 @@ use Rattle.point_set.specs.Shape.{IsClosed}
 use Rattle.point_set.specs.Validity.{IsAtPlace, IsOnEdge}
 use Rattle.point_set.specs.Germ.{Direction, IsAway, HoldsAlong}
 use Rattle.point_set.proofs.Parity.{AreApart}
-use Rattle.point_set.proofs.ParityFlip.{HasSign, turn_mix}
+use Rattle.point_set.proofs.ParityFlip.{HasSign, turn_mix, signed_nonzero}
 use Rattle.point_set.proofs.ParityRing.{inside_stays, some_same}
 use Rattle.point_set.proofs.Room.{Affine, at_point, affine_mix, affine_on, positive_near, reach_of}
 use Rattle.point_set.proofs.Germs.{away_point, away_point_is, away_near, far_for, some_weight}
@@ -43,10 +43,6 @@ no_turn_on e f {m} ha hb on =
     zero_factor on.mix.times (edge_turn e m) (pos_nonzero on.mix.some)
     (turn_mix (point_of e.a) (point_of e.b) on.mix
     ∙ (λ i. (on.s *ℤ ha i) +ℤ (on.t *ℤ hb i)) ∙ (λ i. *ℤ-zero on.s i +ℤ *ℤ-zero on.t i))
-
-pub signed_nonzero : (s : Bool) (z : ℤ) → HasSign s z → z ≡ pos 0 → ⊥
-signed_nonzero true z h = pos_nonzero h
-signed_nonzero false z h = <ℤ_apart h
 
 -- the same for what an affine function parts from both points
 pub positive_between : (f : Affine) {p q m : Point} → pos 0 <ℤ at_point f p → pos 0 <ℤ at_point f q → IsOnSegment p q m → pos 0 <ℤ at_point f m
