@@ -1,6 +1,6 @@
 -- Numbers that are cut off at a cap while their digits are read.
-use Rattle.std.proofs.Common.{◌≡◌, ℕ, zero, suc, ◌+◌, ◌-◌, ◌*◌, ◌^◌, ◌<◌, ◌≤◌, min, Bool, true, false, ◌&&◌, List, [], ◌∷◌, inl, inr, IsTrue, length, drop, get_or, refl, sym, ◌∙◌, ap, arith}
-use Rattle.std.proofs.lemmas.Bool.{cases_lt, false≢true}
+use Rattle.std.proofs.Common.{◌≡◌, ℕ, zero, suc, ◌+◌, ◌-◌, ◌*◌, ◌^◌, ◌<◌, ◌≤◌, min, Bool, List, [], ◌∷◌, inl, inr, IsTrue, length, drop, get_or, refl, sym, ◌∙◌, ap, arith}
+use Rattle.std.proofs.lemmas.Bool.{cases_lt, and_parts}
 use Rattle.std.proofs.lemmas.Bool.Decides.{nat_tests}
 use Rattle.std.proofs.lemmas.List.{drop_more}
 use Rattle.std.proofs.Math.Nat.{zero-mul, mul_assoc, pow-succ', le-mul_of_pos_right}
@@ -33,13 +33,9 @@ pub capped-read_on-more : (cap n : ℕ) (text : List ℕ) (i : ℕ) → i < leng
 capped-read_on-more cap n text i within =
     rw (drop_more text i 0 within) (capped-read_on-min cap (n * 10 + (get_or text i 0 - 48)) (drop (i + 1) text))
 
-and_right : (a b : Bool) → IsTrue (a && b) → IsTrue b
-and_right true b h = h
-and_right false b h = absurd (false≢true h)
-
 -- What holds of all that is left holds of what is left one step on.
 pub list_all-more : (p : ℕ → Bool) (text : List ℕ) (i : ℕ) → i < length text → IsTrue (list_all p (drop i text)) → IsTrue (list_all p (drop (i + 1) text))
-list_all-more p text i within h = and_right (p (get_or text i 0)) _ (rw (drop_more text i 0 within) at h)
+list_all-more p text i within h = (and_parts (p (get_or text i 0)) _ (rw (drop_more text i 0 within) at h)).1
 
 pub ten_pos : (k : ℕ) → 0 < 10 ^ k
 ten_pos zero = omega arith

@@ -1,5 +1,6 @@
 -- The tokens decide where the reader comes, and what each of them is for.
-use Rattle.std.proofs.Common.{◌≡◌, Option, Some, Result, Ok, Err, List, [], ◌∷◌, ◌++◌, ◌⊎◌, inl, inr, refl, sym, ap, subst, ◌∙◌}
+use Rattle.std.proofs.Common.{◌≡◌, Some, Result, Ok, Err, List, [], ◌∷◌, ◌++◌, ◌⊎◌, inl, inr, refl, sym, ap, subst, ◌∙◌}
+use Rattle.std.proofs.lemmas.Option.{some_pair_parts}
 use Rattle.wkt_text.specs.declared.token.Token.{Token}
 use Rattle.wkt_text.specs.declared.control.Role.{Role}
 use Rattle.wkt_text.specs.declared.control.Control.{Control}
@@ -25,11 +26,6 @@ pub goes_push : (front : List Slot) (c c' c'' : Control) (t : Token) (r : Role) 
 goes_push [] c c' c'' t r g e = (c'', ap (λ u. advance u t) g ∙ e, refl)
 goes_push (x ∷ front) c c' c'' t r (c₁, e₁, g) e = (c₁, e₁, goes_push front c₁ c' c'' t r g e)
 
-pub some_same : {A B : Type 0} {a b : A} {c d : B} → ◌≡◌ {A = Option (A × B)} (Some (a, c)) (Some (b, d)) → (a ≡ b) × (c ≡ d)
-some_same {A} {B} {a} {b} {c} {d} e =
-    let p : ◌≡◌ {A = A × B} (a, c) (b, d) = cc in
-    (ap (λ (u : A × B). u.0) p, ap (λ (u : A × B). u.1) p)
-
 heads_same : {a b : Token} {s t : List Token} → a ∷ s ≡ b ∷ t → (a ≡ b) × (s ≡ t)
 heads_same e = (cc, cc)
 
@@ -39,12 +35,9 @@ goes_same [] (y ∷ g) c c₁ c₂ h k e = absurd (cc)
 goes_same (x ∷ f) [] c c₁ c₂ h k e = absurd (cc)
 goes_same ((t, r) ∷ f) ((u, q) ∷ g) c c₁ c₂ (d₁, e₁, h) (d₂, e₂, k) e =
     let (same, rest) = heads_same {a = t} {b = u} e in
-    let (roles, controls) = some_same {a = r} {b = q} {c = d₁} {d = d₂} (sym e₁ ∙ ap (advance c) same ∙ e₂) in
+    let (roles, controls) = some_pair_parts r q d₁ d₂ (sym e₁ ∙ ap (advance c) same ∙ e₂) in
     let (fronts, ends) = goes_same f g d₁ c₁ c₂ h (subst (λ v. Goes v g c₂) (sym controls) k) rest in
-    (cons_same same roles fronts, ends)
-  where
-    cons_same : {t u : Token} {r q : Role} {f g : List Slot} → t ≡ u → r ≡ q → f ≡ g → slot t r ∷ f ≡ slot u q ∷ g
-    cons_same a b c = cc
+    ((λ i. slot (same i) (roles i) ∷ fronts i), ends)
 
 -- The last token that was taken.
 pub record Last (c : Control) (front : List Slot) (d : Control) : Type 0 where
@@ -65,6 +58,9 @@ last_of ((t, r) ∷ front) c d (c₁, e, g) = inr (go (last_of front c₁ d g))
     go (inr l) = record { before = slot t r ∷ l.before; token = l.token; role = l.role; control = l.control; joined = ap (λ u. slot t r ∷ u) l.joined; goes = (c₁, e, l.goes); next = l.next }
 
 -- ---- what is built
+
+pub ok_same : {a b : Build} → ◌≡◌ {A = Result Build WktKind} (Ok a) (Ok b) → a ≡ b
+ok_same e = cc
 
 bind_after : (r : Result Build WktKind) (f g : Build → Result Build WktKind) (h : Build → Result Build WktKind) →
     ((b : Build) → f b ≡ (g b >>= h)) → (r >>= f) ≡ ((r >>= g) >>= h)
@@ -108,10 +104,7 @@ tokens_pushed (x ∷ y ∷ front) [] t e = absurd (no_tail (heads_same e).1)
 tokens_pushed ((v, r) ∷ front) (u ∷ ts) t e =
     let (same, rest) = heads_same {a = v} {b = u} e in
     let (f, q, e₁, e₂) = tokens_pushed front ts t rest in
-    (slot v r ∷ f, q, ap (λ w. slot v r ∷ w) e₁, cons_tokens same e₂)
-  where
-    cons_tokens : {a b : Token} {s t : List Token} → a ≡ b → s ≡ t → a ∷ s ≡ b ∷ t
-    cons_tokens a b = cc
+    (slot v r ∷ f, q, ap (λ w. slot v r ∷ w) e₁, (λ i. same i ∷ e₂ i))
 
 pub run_goes : (slots : List Slot) (c : Control) → Run c slots → (d : Control) × Goes c slots d × (d.step ≡ Done)
 run_goes [] c h = (c, refl, h)
@@ -129,7 +122,4 @@ tokens_split [] (t ∷ ts) us e = absurd (cc)
 tokens_split ((v, r) ∷ slots) (t ∷ ts) us e =
     let (same, rest) = heads_same {a = v} {b = t} e in
     let (f, g, joined, tokens) = tokens_split slots ts us rest in
-    (slot v r ∷ f, g, ap (λ u. slot v r ∷ u) joined, tokens_cons same tokens)
-  where
-    tokens_cons : {a b : Token} {s t : List Token} → a ≡ b → s ≡ t → a ∷ s ≡ b ∷ t
-    tokens_cons a b = cc
+    (slot v r ∷ f, g, ap (λ u. slot v r ∷ u) joined, (λ i. same i ∷ tokens i))

@@ -1,8 +1,9 @@
 -- A text has one answer: white space alone, one reading, or one first fault.
-use Rattle.std.proofs.Common.{◌≡◌, ℕ, suc, ◌+◌, Bool, true, false, ◌&&◌, Result, Err, List, [], ◌∷◌, ◌++◌, ◌⊎◌, inl, inr, length, drop, refl, sym, ap, subst, ◌∙◌, arith, length-drop}
+use Rattle.std.proofs.Common.{◌≡◌, ℕ, suc, ◌+◌, Bool, true, Result, Err, List, [], ◌∷◌, ◌++◌, ◌⊎◌, inl, inr, length, drop, refl, sym, ap, subst, ◌∙◌, arith, length-drop}
 use Rattle.std.specs.List.{list_all, prefix_len}
-use Rattle.std.proofs.lemmas.Bool.{false≢true}
+use Rattle.std.proofs.lemmas.Bool.{and_parts}
 use Rattle.std.proofs.lemmas.List.{append-nil, drop_all}
+use Rattle.std.proofs.lemmas.Option.{some_pair_parts}
 use Rattle.std.proofs.Math.Numerals.{one-add}
 use Rattle.point_set.specs.declared.figure.Figure.{Figure}
 use Rattle.wkt_text.specs.Bytes.{is_white}
@@ -26,13 +27,9 @@ use Rattle.wkt_text.specs.Faults.{Stands, tokens_of, Reads, IsRight, IsOnlyWhite
 use Rattle.wkt_text.specs.Results.{IsFirstFault, IsReadAs, IsFaultAt}
 use Rattle.wkt_text.proofs.Parses.{start, Run}
 use Rattle.wkt_text.proofs.Spells.{spelled_run}
-use Rattle.wkt_text.proofs.Courses.{goes_split, some_same}
+use Rattle.wkt_text.proofs.Courses.{goes_split}
 use Rattle.wkt_text.proofs.FirstFaults.{Taken, continues_taken, unknown_not_ragged}
 use Rattle.wkt_text.proofs.Progress.{stands_compare, one_reading, right_front}
-
-and_parts : (a b : Bool) → (a && b) ≡ true → (a ≡ true) × (b ≡ true)
-and_parts true b h = (refl, h)
-and_parts false b h = absurd (false≢true h)
 
 -- Where all pass, the front that passes is the whole list.
 pub prefix_len-all : (p : ℕ → Bool) (xs : List ℕ) → list_all p xs ≡ true → prefix_len p xs ≡ length xs
@@ -51,25 +48,29 @@ head_first : (role : Role) (kind : TypeWord) (w : Writing) (rest : List Slot) �
 head_first role kind (joined t) rest = (t, _, refl)
 head_first role kind (apart t) rest = (_, _, refl)
 
--- The text of a geometry begins with a type word.
-spelling_first : (g : Geometry) → (kind : TypeWord) × (t : Tag) × (more : List Token) × (tokens_of (spelling g) ≡ token.Type kind t ∷ more)
-spelling_first (simple w b) = let (t, more, e) = head_first Head (type_of_simple b) w (simple_then b []) in (type_of_simple b, t, more, e)
-spelling_first (empty_collection w) = let (t, more, e) = head_first (depth_role 0) type.GeometryCollection w (gap_then []) in (type.GeometryCollection, t, more, e)
+-- The text of a geometry begins with its type word.
+abbrev pub type_of_geometry : Geometry → TypeWord
+type_of_geometry (simple w b) = type_of_simple b
+type_of_geometry (empty_collection w) = type.GeometryCollection
+type_of_geometry (collection w g gs) = type.GeometryCollection
+
+pub spelling_first : (g : Geometry) → (t : Tag) × (more : List Token) × (tokens_of (spelling g) ≡ token.Type (type_of_geometry g) t ∷ more)
+spelling_first (simple w b) = head_first Head (type_of_simple b) w (simple_then b [])
+spelling_first (empty_collection w) = head_first (depth_role 0) type.GeometryCollection w (gap_then [])
 spelling_first (collection w g gs) =
-    let (t, more, e) = head_first (depth_role 0) type.GeometryCollection w (slot token.Open Mark ∷ geometry_then g 1 (geometries_then gs 1 (slot token.Close Mark ∷ []))) in
-    (type.GeometryCollection, t, more, e)
+    head_first (depth_role 0) type.GeometryCollection w (slot token.Open Mark ∷ geometry_then g 1 (geometries_then gs 1 (slot token.Close Mark ∷ [])))
+
+pub type_is_no_end : (kind : TypeWord) (t : Tag) → ◌≡◌ {A = Token} token.End (token.Type kind t) → ⊥
+type_is_no_end kind t e = cc
 
 -- Where only white space follows, nothing is read.
 pub white_unread : (scale : ℕ) (bytes : List ℕ) (from : ℕ) (figure : Figure) (last : ℕ) → IsOnlyWhite bytes from → Reads scale bytes from figure last → ⊥
 white_unread scale bytes from figure last white r =
-    let (kind, t, more, e) = spelling_first r.geometry in
-    first_not_end kind t more (subst (λ u. Stands scale bytes from u last) e r.stands)
+    let (t, more, e) = spelling_first r.geometry in
+    first_not_end (type_of_geometry r.geometry) t more (subst (λ u. Stands scale bytes from u last) e r.stands)
   where
-    apart_tokens : (kind : TypeWord) (t : Tag) → ◌≡◌ {A = Token} token.End (token.Type kind t) → ⊥
-    apart_tokens kind t e = cc
-
     first_not_end : (kind : TypeWord) (t : Tag) (more : List Token) → Stands scale bytes from (token.Type kind t ∷ more) last → ⊥
-    first_not_end kind t more (e, h) = apart_tokens kind t (sym (white_end scale bytes from white) ∙ e)
+    first_not_end kind t more (e, h) = type_is_no_end kind t (sym (white_end scale bytes from white) ∙ e)
 
 -- What was read is the one reading.
 pub read_as : (scale : ℕ) (bytes : List ℕ) (from : ℕ) (p : Parsed) (figure : Figure) (last : ℕ) → Reads scale bytes from p.figure p.«end» →
@@ -103,7 +104,7 @@ one_kind ts t j k right (breaks b r n e) (breaks b' r' n' e') =
     let (c, d, taken) = right_whole ts right in
     let (c₁, e₁, s₁) = continues_taken ts c d b t r taken n in
     let (c₂, e₂, s₂) = continues_taken ts c d b' t r' taken n' in
-    let (roles, controls) = some_same {a = r} {b = r'} {c = c₁} {d = c₂} (sym e₁ ∙ e₂) in
+    let (roles, controls) = some_pair_parts r r' c₁ c₂ (sym e₁ ∙ e₂) in
     err_same (sym e ∙ ap (λ u. act u r t) (sym s₁ ∙ s₂) ∙ ap (λ u. act b' u t) roles ∙ e')
 one_kind ts t j k right (breaks b r n e) (unknown_type f u) = absurd (f b r n)
 one_kind ts t j k right (breaks b r n e) (ragged f u) = absurd (f b r n)

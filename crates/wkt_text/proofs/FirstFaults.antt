@@ -1,6 +1,7 @@
 -- The first token that the reader doesn't take is the first faulty one, and of its kind.
 use Rattle.std.proofs.Common.{◌≡◌, ℕ, zero, suc, nat_lt, cond, Bool, true, false, Some, None, Result, Ok, Err, List, [], ◌∷◌, ◌++◌, ◌⊎◌, inl, inr, refl, sym, ap, subst, ◌∙◌}
 use Rattle.std.proofs.lemmas.List.{same_from_push}
+use Rattle.std.proofs.lemmas.Option.{none-some, some_pair_parts}
 use Rattle.wkt_text.specs.declared.word.TypeWord.{TypeWord}
 use Rattle.wkt_text.specs.declared.word.TypeWord.TheVariants as type
 use Rattle.wkt_text.specs.declared.word.Tag.{Tag}
@@ -26,7 +27,7 @@ use Rattle.wkt_text.specs.Faults.{tokens_of, builds, IsRight, Continues, IsRefus
 use Rattle.wkt_text.proofs.Parses.{at, start, Run, Goes, run_spelled}
 use Rattle.wkt_text.proofs.Spells.{spelled_run}
 use Rattle.wkt_text.proofs.Ends.{ends}
-use Rattle.wkt_text.proofs.Courses.{goes_split, goes_join, goes_push, goes_same, some_same, Last, last_of, builds_front, builds_one, builds_push, tokens_pushed, tokens_of-push}
+use Rattle.wkt_text.proofs.Courses.{goes_split, goes_join, goes_push, goes_same, Last, last_of, builds_front, builds_one, builds_push, tokens_pushed, tokens_of-push, goes_parts, ok_same}
 
 -- The reader has taken these tokens: it is there, and has built that.
 pub record Taken (ts : List Token) (c : Control) (b : Build) : Type 0 where
@@ -49,9 +50,6 @@ taken_continues ts c c' b t r k e =
     let (g, s) = run_spelled (k.front ++ slot t r ∷ rest) (goes_join k.front (slot t r ∷ rest) start c k.goes (c', e, h)) in
     record { geometry = g; front = k.front; rest = rest; spelled = sym s; tokens = k.tokens; kept = k.kept }
 
-ok_same : {a b : Build} → ◌≡◌ {A = Result Build WktKind} (Ok a) (Ok b) → a ≡ b
-ok_same e = cc
-
 -- A token that goes on is one that the reader takes.
 pub continues_taken : (ts : List Token) (c : Control) (b b' : Build) (t : Token) (r : Role) → Taken ts c b → Continues ts b' t r →
     (c' : Control) × (advance c t ≡ Some (r, c')) × (b ≡ b')
@@ -67,7 +65,7 @@ right_taken ts c b t k n =
     let (f, r, e, same) = tokens_pushed n.front ts t n.tokens in
     let (c', g, h) = goes_split (f ++ slot t r ∷ []) n.rest start
     (subst (λ u. Run start (u ++ n.rest)) e (subst (λ u. Run start u) n.spelled (spelled_run n.geometry))) in
-    let (d, g₁, (c₁, e₁, last)) = goes_prefix f (slot t r ∷ []) start c' g in
+    let (d, g₁, (c₁, e₁, last)) = goes_parts f (slot t r ∷ []) start c' g in
     let (fronts, controls) = goes_same k.front f start c d k.goes g₁ (k.tokens ∙ sym same) in
     let (b₁, e₂, e₃) = builds_front f (slot t r ∷ []) start_build n.build (ap (builds start_build) (sym e) ∙ n.kept) in
     let builts = ok_same (sym k.kept ∙ ap (builds start_build) fronts ∙ e₂) in (
@@ -79,10 +77,6 @@ right_taken ts c b t k n =
         done = ap (λ u. act u r t) builts ∙ builds_one b₁ n.build t r e₃;
       },
     )
-  where
-    goes_prefix : (front rest : List Slot) (c c' : Control) → Goes c (front ++ rest) c' → (d : Control) × Goes c front d × Goes d rest c'
-    goes_prefix [] rest c c' h = (c, refl, h)
-    goes_prefix (x ∷ front) rest c c' (c₁, e, h) = let (d, g, r) = goes_prefix front rest c₁ c' h in (d, (c₁, e, g), r)
 
 -- One more token is taken.
 pub taken_more : (ts : List Token) (c c' : Control) (b b' : Build) (t : Token) → Taken ts c b → IsTaken c b t c' b' → Taken (ts ++ t ∷ []) c' b'
@@ -92,9 +86,6 @@ taken_more ts c c' b b' t k n = record {
   goes = goes_push k.front start c c' t n.role k.goes n.next;
   kept = builds_push k.front start_build b b' t n.role k.kept n.done;
 }
-
-pub taken_none : Taken [] start start_build
-taken_none = record { front = []; tokens = refl; goes = refl; kept = refl }
 
 -- ---- what a purpose says of where the reader is
 
@@ -353,10 +344,7 @@ demanded_expected ts Full s d tag b k h = elim h [ ]
 demanded_expected ts Done s d tag b k h = elim h [ ]
 
 refused_by_reader : (ts : List Token) (c : Control) (b : Build) (t : Token) → Taken ts c b → advance c t ≡ None → IsRefused ts t
-refused_by_reader ts c b t k e b' r n = let (c', e', same) = continues_taken ts c b b' t r k n in none_is_some (sym e ∙ e')
-  where
-    none_is_some : {A : Type 0} {x : A} → None ≡ Some x → ⊥
-    none_is_some e = cc
+refused_by_reader ts c b t k e b' r n = let (c', e', same) = continues_taken ts c b b' t r k n in none-some _ (sym e ∙ e')
 
 -- What the reader took last.
 record LastTaken (ts : List Token) (c : Control) : Type 0 where
@@ -442,7 +430,7 @@ third_is_late ts c b k a = go (last_taken ts c b k)
     go (inr l) =
         let (fronts, tokens) = same_from_push l.before a.before l.token a.last (sym l.joined ∙ a.joined) in
         let (c', e, same) = continues_taken l.before l.control l.build a.build a.last a.role l.taken (subst (λ u. Continues u a.build a.last a.role) (sym fronts) a.continues) in
-        let (roles, controls) = some_same {a = a.role} {b = l.role} {c = c'} {d = c} (sym e ∙ ap (advance l.control) (sym tokens) ∙ l.next) in
+        let (roles, controls) = some_pair_parts a.role l.role c' c (sym e ∙ ap (advance l.control) (sym tokens) ∙ l.next) in
         third_late l.role l.control.step c.step l.control.tag (role_fact l.control c l.token l.role l.next)
         (subst (λ u. (u ≡ Demanded) ⊎ (u ≡ Further)) roles a.third)
 
@@ -475,7 +463,7 @@ pub faulty_wrong : (ts : List Token) (c : Control) (b : Build) (t : Token) (kind
 faulty_wrong ts c b t kind k (inl (none, e)) right = let (c', b', n) = right_taken ts c b t k right in some_none (sym n.next ∙ none)
 faulty_wrong ts c b t kind k (inr x) right =
     let (c', b', n) = right_taken ts c b t k right in
-    let (roles, controls) = some_same {a = n.role} {b = x.role} {c = c'} {d = x.control} (sym n.next ∙ x.next) in
+    let (roles, controls) = some_pair_parts n.role x.role c' x.control (sym n.next ∙ x.next) in
     ok_err (sym n.done ∙ ap (λ u. act b u t) roles ∙ x.stopped)
 
 -- The kind of a token that the reader doesn't take.

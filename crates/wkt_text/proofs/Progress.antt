@@ -1,5 +1,5 @@
 -- The reader goes on through the bytes.
-use Rattle.std.proofs.Common.{◌≡◌, ℕ, ◌<◌, Bool, true, false, Some, None, Result, Ok, Err, List, [], ◌∷◌, ◌++◌, ◌⊎◌, inl, inr, refl, sym, ap, subst, ◌∙◌, drop, arith}
+use Rattle.std.proofs.Common.{◌≡◌, ℕ, ◌<◌, true, false, Some, None, Result, Ok, Err, List, [], ◌∷◌, ◌++◌, ◌⊎◌, inl, inr, refl, sym, ap, subst, ◌∙◌, drop, arith}
 use Rattle.std.specs.Char.{is_ascii_alphabetic}
 use Rattle.wkt_text.specs.declared.token.Token.{Token}
 use Rattle.wkt_text.specs.declared.token.Token.TheVariants as token
@@ -23,23 +23,21 @@ use Rattle.wkt_text.specs.Tokens.{token_in, is_number_start, lexeme_at, place_of
 use Rattle.wkt_text.specs.Grammar.{spelling}
 use Rattle.point_set.specs.declared.figure.Figure.{Figure}
 use Rattle.std.proofs.lemmas.List.{append_assoc, append-nil}
+use Rattle.std.proofs.lemmas.Bool.{cases_Bool}
+use Rattle.std.proofs.lemmas.Option.{none-some}
 use Rattle.wkt_text.specs.Faults.{Stands, tokens_of, builds, Reads, IsRight, IsOnlyWhite, FirstFault}
 use Rattle.wkt_text.proofs.TreeFigures.{built_figure, reads_built}
 use Rattle.wkt_text.proofs.Spells.{spelled_run}
-use Rattle.wkt_text.proofs.Courses.{run_goes, goes_parts, goes_same, builds_front, tokens_split}
+use Rattle.wkt_text.proofs.Courses.{run_goes, goes_parts, goes_same, builds_front, tokens_split, ok_same}
 use Rattle.wkt_text.proofs.Parses.{at, start, Goes, run_spelled, goes_run}
-use Rattle.wkt_text.proofs.FirstFaults.{Taken, taken_none, taken_more, taken_right, right_taken, faulty_wrong, faulty_has_kind}
-
-either : (b : Bool) → (b ≡ true) ⊎ (b ≡ false)
-either true = inl refl
-either false = inr refl
+use Rattle.wkt_text.proofs.FirstFaults.{Taken, taken_more, taken_right, right_taken, faulty_wrong, faulty_has_kind}
 
 -- A token that isn't the end has a byte.
 token_moves : (scale : ℕ) (text : List ℕ) → ((token_in scale text).0 ≡ token.End) ⊎ (0 < (token_in scale text).1)
 token_moves scale [] = inl refl
-token_moves scale (b ∷ rest) = inr (elim (either (is_ascii_alphabetic b)) [
+token_moves scale (b ∷ rest) = inr (elim (cases_Bool (is_ascii_alphabetic b)) [
   | inl letter ↦ rw letter (omega arith)
-  | inr other ↦ elim (either (is_number_start b)) [
+  | inr other ↦ elim (cases_Bool (is_number_start b)) [
     | inl first ↦ rw (other, first) (omega arith)
     | inr mark_only ↦ rw (other, mark_only) (omega arith)
   ]
@@ -63,15 +61,12 @@ end_refused_by Three s d M = refl
 end_refused_by Three s d Zm = refl
 end_refused_by other s d tag = refl
 
-none_is_some : {A : Type 0} {x : A} → None ≡ Some x → ⊥
-none_is_some e = cc
-
 -- The end of the source is never taken, so what is taken moves on.
 pub taken_moves : (scale : ℕ) (bytes : List ℕ) (from : ℕ) (c c' : Control) (b b' : Build) →
     IsTaken c b (lexeme_at scale bytes from).token c' b' → from < (lexeme_at scale bytes from).«end»
 unfolding advance
 taken_moves scale bytes from c c' b b' k = elim (lexeme_moves scale bytes from) [
-  | inl e ↦ absurd (none_is_some (sym (end_refused_by c.step c.site c.depth c.tag) ∙ ap (λ u. advance c u) (sym e) ∙ k.next))
+  | inl e ↦ absurd (none-some _ (sym (end_refused_by c.step c.site c.depth c.tag) ∙ ap (λ u. advance c u) (sym e) ∙ k.next))
   | inr moves ↦ moves
 ]
 
@@ -87,9 +82,6 @@ pub record SoFar (scale : ℕ) (bytes : List ℕ) (from place : ℕ) (c : Contro
   pub tokens : List Token
   pub stands : Stands scale bytes from tokens place
   pub taken : Taken tokens c b
-
-pub so_far_none : (scale : ℕ) (bytes : List ℕ) (from : ℕ) → SoFar scale bytes from from start start_build
-so_far_none scale bytes from = record { tokens = []; stands = refl; taken = taken_none }
 
 pub so_far_more : (scale : ℕ) (bytes : List ℕ) (from place : ℕ) (c c' : Control) (b b' : Build) → SoFar scale bytes from place c b →
     IsTaken c b (lexeme_at scale bytes place).token c' b' → SoFar scale bytes from (lexeme_at scale bytes place).«end» c' b'
@@ -129,13 +121,10 @@ stands_compare scale bytes [] us from p q h k = inl (us, refl, subst (λ u. Stan
 stands_compare scale bytes (t ∷ ts) [] from p q h k = inr (t ∷ ts, refl, subst (λ u. Stands scale bytes u (t ∷ ts) p) k h)
 stands_compare scale bytes (t ∷ ts) (u ∷ us) from p q (e, h) (f, k) = go (stands_compare scale bytes ts us _ p q h k)
   where
-    cons_same : {a b : Token} {s t : List Token} → a ≡ b → s ≡ t → a ∷ s ≡ b ∷ t
-    cons_same a b = cc
-
     go : ((more : List Token) × (us ≡ ts ++ more) × Stands scale bytes p more q) ⊎ ((more : List Token) × (ts ≡ us ++ more) × Stands scale bytes q more p) →
         ((more : List Token) × (u ∷ us ≡ (t ∷ ts) ++ more) × Stands scale bytes p more q) ⊎ ((more : List Token) × (t ∷ ts ≡ (u ∷ us) ++ more) × Stands scale bytes q more p)
-    go (inl (more, g, m)) = inl (more, cons_same (sym f ∙ e) g, m)
-    go (inr (more, g, m)) = inr (more, cons_same (sym e ∙ f) g, m)
+    go (inl (more, g, m)) = inl (more, (λ i. (sym f ∙ e) i ∷ g i), m)
+    go (inr (more, g, m)) = inr (more, (λ i. (sym e ∙ f) i ∷ g i), m)
 
 -- What is read was taken to its end.
 pub record Whole (ts : List Token) (b : Build) : Type 0 where
@@ -160,15 +149,12 @@ taken_front ts more c b k =
 -- After the end nothing is taken.
 done_takes_none : (c c' : Control) (t : Token) (r : Role) → c.step ≡ Done → advance c t ≡ Some (r, c') → ⊥
 unfolding advance
-done_takes_none c c' t r done e = none_is_some (ap (λ s. advance_by s c t) (sym done) ∙ e)
+done_takes_none c c' t r done e = none-some _ (ap (λ s. advance_by s c t) (sym done) ∙ e)
 
 taken_same : (ts : List Token) (c d : Control) (b e : Build) → Taken ts c b → Taken ts d e → (c ≡ d) × (b ≡ e)
 taken_same ts c d b e k l =
     let (fronts, controls) = goes_same k.front l.front start c d k.goes l.goes (k.tokens ∙ sym l.tokens) in
     (controls, ok_same (sym k.kept ∙ ap (λ u. builds start_build u) fronts ∙ l.kept))
-  where
-    ok_same : {a b : Build} → ◌≡◌ {A = Result Build WktKind} (Ok a) (Ok b) → a ≡ b
-    ok_same e = cc
 
 -- The first of more tokens.
 pub right_front : (ts more : List Token) (t : Token) → IsRight (ts ++ t ∷ more) → IsRight (ts ++ t ∷ [])

@@ -1,12 +1,12 @@
 -- What tokens build is well shaped.
-use Rattle.std.proofs.Common.{◌≡◌, ℕ, ◌+◌, ◌-◌, ◌<◌, ◌≤◌, ℤ, pos, negsuc, ◌≤ℤ◌, nat_lt, cond, ◌&&◌, Bool, true, false, Option, Some, None, Result, Ok, Err, List, [], ◌∷◌, ◌++◌, length, get_or, drop, take_while, codes, ◌==◌, sum_by, refl, sym, ap, subst, ◌∙◌, arith}
+use Rattle.std.proofs.Common.{◌≡◌, ℕ, ◌+◌, ◌-◌, ◌<◌, ◌≤◌, ℤ, pos, negsuc, ◌≤ℤ◌, nat_lt, cond, Bool, true, false, Option, Some, None, Result, Ok, Err, List, [], ◌∷◌, length, get_or, drop, take_while, codes, ◌==◌, sum_by, refl, sym, ap, subst, ◌∙◌, arith}
 use Rattle.std.specs.List.{All}
 use Rattle.std.specs.Ordering.{int_eq}
 use Rattle.std.proofs.lemmas.Int.{ints}
-use Rattle.std.proofs.lemmas.Bool.{false≢true, ltb-true, ltb-false}
+use Rattle.std.proofs.lemmas.Bool.{ltb-true, ltb-false, and_parts}
 use Rattle.std.proofs.lemmas.Bool.Decides.{Decides-int_eq}
 use Rattle.std.proofs.lemmas.Option.{slice_get-get_or}
-use Rattle.std.proofs.lemmas.List.Sums.{fold-append}
+use Rattle.std.proofs.lemmas.List.Sums.{sum_by_push}
 use Rattle.std.proofs.lemmas.List.{length_push}
 use Rattle.std.proofs.lemmas.List.Elements.{All-nil, All-push}
 use Rattle.plane_exact.specs.Places.{IsInLimit}
@@ -32,6 +32,7 @@ use Rattle.wkt_text.specs.Tokens.{tag_token, type_token, is_name, word_token, wo
 use Rattle.wkt_text.specs.Grammar.{Slot, spelling}
 use Rattle.wkt_text.specs.Faults.{Stands, tokens_of, builds, Reads}
 use Rattle.wkt_text.proofs.TreeFigures.{reads_built}
+use Rattle.wkt_text.proofs.Courses.{ok_same}
 use Rattle.std.specs.Char.{is_ascii_alphabetic}
 use Rattle.wkt_text.specs.declared.build.Build.{Build}
 use Rattle.wkt_text.specs.Rules.{◌>>=◌, place_value, drop_fault, same_place, ends_meet, ring_fault, unless, with_x, with_point, with_position, with_area, act, act_by, start_build}
@@ -96,9 +97,6 @@ good_value other f n h = tt
 good_unless : (o : Option WktKind) (b : Build) → (o ≡ None → IsBuilt b) → Good (unless o b)
 good_unless None b h = h refl
 good_unless (Some k) b h = tt
-
-sum_by-push : {X : Type 0} (f : X → ℕ) (xs : List X) (x : X) → sum_by f (xs ++ x ∷ []) ≡ sum_by f xs + f x
-sum_by-push f xs x = fold-append (λ a y. a + f y) 0 xs (x ∷ [])
 
 near_point : (x y : ℤ) → IsNear x → IsNear y → IsInLimit (record { x = x; y = y })
 near_point x y a b = record { left = a.0; right = a.1; bottom = b.0; top = b.1 }
@@ -169,10 +167,6 @@ ends_meet_closed (p ∷ way) e =
     ap Some (same_from p (get_or (p ∷ way) (length (p ∷ way) - 1) p) e)
     ∙ sym (slice_get-get_or (p ∷ way) (length (p ∷ way) - 1) p (omega arith))
   where
-    and_parts : (a b : Bool) → (a && b) ≡ true → (a ≡ true) × (b ≡ true)
-    and_parts true b h = (refl, h)
-    and_parts false b h = absurd (false≢true h)
-
     same_from : (p q : Pt) → same_place p q ≡ true → p ≡ q
     same_from p q h =
         let (xs, ys) = and_parts (int_eq p.x q.x) (int_eq p.y q.y) h in
@@ -199,7 +193,7 @@ good_line b h = good_if (nat_lt (length b.way) 2) _ _ (λ e. tt) (λ e. record {
   shell = h.shell;
   holes = h.holes;
   x = h.x;
-  few = rw (sum_by-push length b.figure.lines b.way) (omega (arith, h.few));
+  few = rw (sum_by_push length b.figure.lines b.way) (omega (arith, h.few));
   most = h.most;
 })
 
@@ -225,7 +219,7 @@ good_hole b h = good_unless (ring_fault b.way) _ (λ e. record {
   shell = h.shell;
   holes = All-push IsRingShaped b.holes b.way h.holes (ring_shaped b.way h.way e);
   x = h.x;
-  few = rw (sum_by-push length b.holes b.way) (omega (arith, h.few));
+  few = rw (sum_by_push length b.holes b.way) (omega (arith, h.few));
   most = h.most;
 })
 
@@ -243,7 +237,7 @@ good_area b (Some ring) e h =
       shell = tt;
       holes = All-nil IsRingShaped;
       x = h.x;
-      few = rw (sum_by-push positions_of_area b.figure.areas more) (omega (arith, few));
+      few = rw (sum_by_push positions_of_area b.figure.areas more) (omega (arith, few));
       most = h.most;
     }
 
@@ -289,9 +283,6 @@ good_then (Err k) f d g e = absurd (cc)
 built_all : (slots : List Slot) (b d : Build) → IsBuilt b → AreNear (tokens_of slots) → builds b slots ≡ Ok d → IsBuilt d
 unfolding act
 built_all [] b d h n e = subst IsBuilt (ok_same e) h
-  where
-    ok_same : {a b : Build} → ◌≡◌ {A = Result Build WktKind} (Ok a) (Ok b) → a ≡ b
-    ok_same e = cc
 built_all (x ∷ rest) b d h (n, ns) e =
     let (c, k, f) = good_then (act_by b x.1 x.0) (λ c. builds c rest) d (good_act b x.1 x.0 h n) e in
     built_all rest c d k ns f

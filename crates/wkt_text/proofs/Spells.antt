@@ -1,5 +1,6 @@
 -- What a tree spells, the reader takes to the end.
 use Rattle.std.proofs.Common.{◌≡◌, ℕ, zero, suc, Bool, true, false, Option, Some, None, option_map, List, [], ◌∷◌, refl, ap, ◌∙◌}
+use Rattle.std.proofs.lemmas.Option.{none-some}
 use Rattle.wkt_text.specs.declared.word.TypeWord.{TypeWord}
 use Rattle.wkt_text.specs.declared.word.TypeWord.TheVariants as type
 use Rattle.wkt_text.specs.declared.word.Tag.{Tag}
@@ -17,9 +18,6 @@ use Rattle.wkt_text.specs.Machine.{advance, started, opened, second_role, end_ro
 use Rattle.wkt_text.specs.Grammar.{depth_role, Slot, slot, Ordinate, number, nan, More, Position, Way, empty_way, along, Element, empty_element, bare, bracketed, Surface, empty_surface, hollow, area, empty_many, several, Simple, empty_point, point, line, polygon, points, lines, polygons, Writing, joined, apart, Geometry, simple, empty_collection, collection, Geometries, none, more, ordinate_then, further_then, more_then, position_then, others_then, along_then, gap_then, way_then, element_then, gaps_then, surface_then, type_of_simple, simple_then, geometry_then, geometries_then, tag_of_writing, head_then, spelling}
 use Rattle.wkt_text.proofs.Parses.{at, start, Run}
 
-none_some : {A : Type 0} {x : A} → None ≡ Some x → ⊥
-none_some e = cc
-
 after_done : After ≡ Done → ⊥
 after_done e = cc
 
@@ -36,14 +34,14 @@ unfolding advance
 run_two_plain s d [] e = absurd (after_done e)
 run_two_plain s d ((token.Comma, r) ∷ rest) h = h
 run_two_plain s d ((token.Close, r) ∷ rest) h = h
-run_two_plain s d ((other, r) ∷ rest) h = absurd (none_some h.1)
+run_two_plain s d ((other, r) ∷ rest) h = absurd (none-some _ h.1)
 
 run_three_plain : (s : Site) (d : ℕ) (rest : List Slot) → Run (at After s d Plain) rest → Run (at Three s d Plain) rest
 unfolding advance
 run_three_plain s d [] e = absurd (after_done e)
 run_three_plain s d ((token.Comma, r) ∷ rest) h = h
 run_three_plain s d ((token.Close, r) ∷ rest) h = h
-run_three_plain s d ((other, r) ∷ rest) h = absurd (none_some h.1)
+run_three_plain s d ((other, r) ∷ rest) h = absurd (none-some _ h.1)
 
 run_further : (s : Site) (d : ℕ) (o : Option Ordinate) (rest : List Slot) → Run (at After s d Plain) rest → Run (at Three s d Plain) (further_then o rest)
 unfolding advance
@@ -190,7 +188,7 @@ unfolding advance
 run_tagged kind s d tag [] e = absurd (body_done kind e)
 run_tagged kind s d tag ((token.Open, r) ∷ rest) (c', e, h) = (c', ap Some (same_opened kind s d tag) ∙ e, h)
 run_tagged kind s d tag ((token.Empty, r) ∷ rest) h = h
-run_tagged kind s d tag ((other, r) ∷ rest) h = absurd (none_some h.1)
+run_tagged kind s d tag ((other, r) ∷ rest) h = absurd (none-some _ h.1)
 
 -- The type word leads to its tag or body.
 abbrev Leads : Site → ℕ → TypeWord → Role → ℕ → Type 0

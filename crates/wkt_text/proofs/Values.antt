@@ -1,6 +1,6 @@
 -- The value of a number, found from the front of its digits.
-use Rattle.std.proofs.Common.{◌≡◌, ℕ, zero, suc, ◌+◌, ◌-◌, ◌*◌, ◌/◌, ◌%◌, ◌^◌, ◌<◌, ◌≤◌, min, Bool, true, false, cond, ◌&&◌, ◌==◌, nat_lt, List, [], ◌∷◌, ◌++◌, ◌⊎◌, inl, inr, IsTrue, Some, None, length, take, drop, refl, sym, ◌∙◌, ap, arith, length-append, length-drop, take-append-drop}
-use Rattle.std.proofs.lemmas.Bool.{cases_lt, false≢true, eqb-true}
+use Rattle.std.proofs.Common.{◌≡◌, ℕ, zero, suc, ◌+◌, ◌-◌, ◌*◌, ◌/◌, ◌%◌, ◌^◌, ◌<◌, ◌≤◌, min, Bool, true, false, cond, ◌&&◌, ◌==◌, nat_lt, List, [], ◌∷◌, ◌++◌, inl, inr, Some, None, length, take, drop, refl, sym, ◌∙◌, ap, arith, length-append, length-drop, take-append-drop}
+use Rattle.std.proofs.lemmas.Bool.{cases_lt, false≢true, eqb-true, cases_Bool, and_parts, and_from}
 use Rattle.std.proofs.lemmas.Bool.Decides.{nat_tests}
 use Rattle.std.proofs.lemmas.List.{take_all, take_rest, drop-drop, drop_all, take-append-le, drop-append-le, append-nil}
 use Rattle.std.proofs.lemmas.List.Sums.{fold-append}
@@ -11,7 +11,7 @@ use Rattle.std.proofs.Math.Nat.{zero-mul, mul_assoc, mul_comm, add-mul, pow-succ
 use Rattle.std.specs.List.{list_all, prefix_len}
 use Rattle.std.proofs.Math.Numerals.{one-add, add-one}
 use Rattle.std.specs.Char.{is_ascii_digit}
-use Rattle.wkt_text.specs.declared.number.Numeral.TheVariants.{Malformed, Fraction}
+use Rattle.wkt_text.specs.declared.number.Numeral.TheVariants.{Fraction}
 use Rattle.wkt_text.specs.Numbers.{read_on, from_digits, capped, is_zero, kept_value, judged, value_of, up_of, down_of, unsigned, is_minus, mantissa, after_mantissa, whole_part, fraction_part, is_formed, is_mantissa, is_exponent, exponent_size, is_exponent_minus, numeral_of}
 use Rattle.wkt_text.proofs.Capped.{read_on-grows, capped-read_on-min, ten_pos, zeros-grow, capped_below, capped_above}
 
@@ -42,9 +42,6 @@ cut_parts w f kept fits = elim (cases_lt (length w) kept) [
 -- All zeros in two parts.
 zeros_both : (x y : List ℕ) → list_all is_zero x ≡ true → list_all is_zero y ≡ true → list_all is_zero (x ++ y) ≡ true
 zeros_both x y a b = rw (list_all-append is_zero x y, a, b) refl
-
-zeros_not_first : (x y : List ℕ) → list_all is_zero x ≡ false → list_all is_zero (x ++ y) ≡ false
-zeros_not_first x y a = rw (list_all-append is_zero x y, a) refl
 
 zeros_not_second : (x y : List ℕ) → list_all is_zero x ≡ true → list_all is_zero y ≡ false → list_all is_zero (x ++ y) ≡ false
 zeros_not_second x y a b = rw (list_all-append is_zero x y, a, b) refl
@@ -84,9 +81,6 @@ cut w f w₁ w₂ f₁ f₂ kept split fits s a b d e =
     rw (a, b, d, e, s) (record { front = (cut_parts w f kept fits).0; back = (cut_parts w f kept fits).1 })
 
 module _ {digits : List ℕ} {kept : ℕ} {w₁ w₂ f₁ f₂ : List ℕ} (zeros : ℕ) (c : IsCut digits kept w₁ w₂ f₁ f₂) where
-  pub kept_value_not_first : list_all is_zero w₂ ≡ false → kept_value digits kept zeros ≡ None
-  kept_value_not_first a = rw (c.back, zeros_not_first w₂ f₂ a) refl
-
   pub kept_value_not_second : list_all is_zero w₂ ≡ true → list_all is_zero f₂ ≡ false → kept_value digits kept zeros ≡ None
   kept_value_not_second a b = rw (c.back, zeros_not_second w₂ f₂ a b) refl
 
@@ -99,29 +93,7 @@ module _ {digits : List ℕ} {kept : ℕ} {w₁ w₂ f₁ f₂ : List ℕ} (zero
       (ap Some (sym (h ∙ ap (λ n. capped 1048576 (n * 10 ^ zeros)) (g ∙ ap (λ n. capped 1048576 (read_on n f₁)) e)
       ∙ capped_in_steps w₁ f₁ zeros)))
 
-and_both : (a b : Bool) → IsTrue a → IsTrue b → IsTrue (a && b)
-and_both true b p q = q
-and_both false b p q = p
-
-and_first : (a b : Bool) → IsTrue (a && b) → IsTrue a
-and_first true b h = refl
-and_first false b h = h
-
-and_second : (a b : Bool) → IsTrue (a && b) → IsTrue b
-and_second true b h = h
-and_second false b h = absurd (false≢true h)
-
--- What holds of all holds of the front.
-pub list_all-take : (p : ℕ → Bool) (xs : List ℕ) (n : ℕ) → IsTrue (list_all p xs) → IsTrue (list_all p (take n xs))
-list_all-take p xs zero h = refl
-list_all-take p [] (suc n) h = refl
-list_all-take p (x ∷ xs) (suc n) h = and_both (p x) _ (and_first (p x) _ h) (list_all-take p xs n (and_second (p x) _ h))
-
 -- ---- the value of all digits, from those in front
-
-either : (b : Bool) → (b ≡ true) ⊎ (b ≡ false)
-either true = inl refl
-either false = inr refl
 
 rest_false : (a b : Bool) → a ≡ true → (a && b) ≡ false → b ≡ false
 rest_false true b h k = k
@@ -130,7 +102,7 @@ rest_false false b h k = absurd (false≢true h)
 pub list_all-drop : (p : ℕ → Bool) (xs : List ℕ) (n : ℕ) → list_all p xs ≡ true → list_all p (drop n xs) ≡ true
 list_all-drop p xs zero h = h
 list_all-drop p [] (suc n) h = refl
-list_all-drop p (x ∷ xs) (suc n) h = list_all-drop p xs n (and_second (p x) _ h)
+list_all-drop p (x ∷ xs) (suc n) h = list_all-drop p xs n (and_parts (p x) _ h).1
 
 -- The digits behind, read alone, add to those in front.
 read_on-split : (n : ℕ) (ys : List ℕ) → read_on n ys ≡ n * 10 ^ length ys + read_on 0 ys
@@ -157,15 +129,15 @@ read_on_below [] h = omega arith
 read_on_below (y ∷ ys) h =
     rw (read_on-split (0 * 10 + (y - 48)) ys, pow-succ' 10 (length ys))
     (ten_times (0 * 10 + (y - 48)) (10 ^ length ys) (read_on 0 ys)
-    (omega (arith, digit_size y (and_first (is_ascii_digit y) _ h)))
-    (read_on_below ys (and_second (is_ascii_digit y) _ h)))
+    (omega (arith, digit_size y (and_parts (is_ascii_digit y) _ h).0))
+    (read_on_below ys (and_parts (is_ascii_digit y) _ h).1))
 
 -- Zeros read as 0, and other digits as more.
 read_on_zeros : (ys : List ℕ) → list_all is_zero ys ≡ true → read_on 0 ys ≡ 0
 read_on_zeros [] h = refl
 read_on_zeros (y ∷ ys) h =
-    let e : 0 * 10 + (y - 48) ≡ 0 = omega (arith, eqb-true y 48 (and_first (is_zero y) _ h)) in
-    rw e (read_on_zeros ys (and_second (is_zero y) _ h))
+    let e : 0 * 10 + (y - 48) ≡ 0 = omega (arith, eqb-true y 48 (and_parts (is_zero y) _ h).0) in
+    rw e (read_on_zeros ys (and_parts (is_zero y) _ h).1)
 
 some_digit : (y : ℕ) → is_ascii_digit y ≡ true → is_zero y ≡ false → 0 < 0 * 10 + (y - 48)
 some_digit y h k = grind (arith, nat_tests)
@@ -173,11 +145,11 @@ some_digit y h k = grind (arith, nat_tests)
 read_on_some : (ys : List ℕ) → list_all is_ascii_digit ys ≡ true → list_all is_zero ys ≡ false → 0 < read_on 0 ys
 read_on_some [] h k = absurd (false≢true (sym k))
 read_on_some (y ∷ ys) h k =
-    elim (either (is_zero y)) [
+    elim (cases_Bool (is_zero y)) [
       | inl zero_y ↦ (
           let e : 0 * 10 + (y - 48) ≡ 0 = omega (arith, eqb-true y 48 zero_y) in
-          rw e (read_on_some ys (and_second (is_ascii_digit y) _ h) (rest_false (is_zero y) _ zero_y k)))
-      | inr not_so ↦ omega (arith, some_digit y (and_first (is_ascii_digit y) _ h) not_so, read_on-grows (0 * 10 + (y - 48)) ys)
+          rw e (read_on_some ys (and_parts (is_ascii_digit y) _ h).1 (rest_false (is_zero y) _ zero_y k)))
+      | inr not_so ↦ omega (arith, some_digit y (and_parts (is_ascii_digit y) _ h).0 not_so, read_on-grows (0 * 10 + (y - 48)) ys)
     ]
 
 -- The digits in front and behind make up the number.
@@ -331,7 +303,7 @@ kept_far minus digits size places scale h f s = elim (cases_lt size 1000) [
 
 front_by : (p : ℕ → Bool) (x : ℕ) (xs : List ℕ) (b : Bool) → p x ≡ b → list_all p (take (prefix_len p xs) xs) ≡ true →
     list_all p (take (cond b (1 + prefix_len p xs) 0) (x ∷ xs)) ≡ true
-front_by p x xs true e h = rw (one-add (prefix_len p xs)) (and_both (p x) _ e h)
+front_by p x xs true e h = rw (one-add (prefix_len p xs)) (and_from (p x) _ e h)
 front_by p x xs false e h = refl
 
 -- The front that passes a test passes it.
@@ -345,9 +317,6 @@ rest_after m r n k e f = rw (take_rest r 1, e, drop-drop 1 n m, f, add-one k) re
 module _ (scale : ℕ) (text : List ℕ) (few : length text ≤ 64) (near : scale ≤ 100) where
   tested : nat_lt 64 (length text) ≡ false
   tested = grind (arith, nat_tests)
-
-  pub malformed : is_formed text ≡ false → Malformed ≡ numeral_of scale text
-  malformed h = rw (tested, h) refl
 
   pub formed : (m x w f : List ℕ) → is_formed text ≡ true → list_all is_ascii_digit (w ++ f) ≡ true → length w + length f ≤ 64 →
       m ≡ mantissa (unsigned text) → x ≡ after_mantissa (unsigned text) → w ≡ whole_part m → f ≡ fraction_part m →
@@ -366,12 +335,12 @@ module _ (scale : ℕ) (text : List ℕ) (few : length text ≤ 64) (near : scal
       ∙ rw (tested, h, e₃, e₄, e₁, e₂) refl
 
 pub digits_both : (w f : List ℕ) (b : Bool) → list_all is_ascii_digit w ≡ true → (list_all is_ascii_digit f && b) ≡ true → list_all is_ascii_digit (w ++ f) ≡ true
-digits_both w f b h k = rw (list_all-append is_ascii_digit w f, h, and_first (list_all is_ascii_digit f) b k) refl
+digits_both w f b h k = rw (list_all-append is_ascii_digit w f, h, (and_parts (list_all is_ascii_digit f) b k).0) refl
 
 pub formed_by : (text m x w f : List ℕ) →
     m ≡ mantissa (unsigned text) → x ≡ after_mantissa (unsigned text) → w ≡ whole_part m → f ≡ fraction_part m →
     (list_all is_ascii_digit f && nat_lt 0 (length w + length f)) ≡ true → is_exponent x ≡ true → is_formed text ≡ true
-formed_by text m x w f e₁ e₂ e₃ e₄ h k = and_both (is_mantissa (mantissa (unsigned text))) _ (rw (e₃, e₄, e₁) at h) (rw e₂ at k)
+formed_by text m x w f e₁ e₂ e₃ e₄ h k = and_from (is_mantissa (mantissa (unsigned text))) _ (rw (e₃, e₄, e₁) at h) (rw e₂ at k)
 
 -- A list all of which is the front that passes.
 pub list_all-whole : (p : ℕ → Bool) (xs : List ℕ) → prefix_len p xs ≡ length xs → list_all p xs ≡ true

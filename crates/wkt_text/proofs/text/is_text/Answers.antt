@@ -1,5 +1,5 @@
 -- The places of the word are those that the runs of white space and letters give.
-use Rattle.std.proofs.Common.{◌≡◌, ◌+◌, ◌∙◌, ◌&&◌, ℕ, drop, slice_range, zero-add, ap}
+use Rattle.std.proofs.Common.{◌≡◌, ◌+◌, ◌∙◌, ◌&&◌, drop, slice_range, zero-add, ap}
 use Rattle.std.proofs.lemmas.List.{take_rest}
 use Rattle.std.specs.List.{prefix_len}
 use Rattle.wkt_text.specs.Bytes.{in_class}
