@@ -4,6 +4,7 @@ use Rattle.std.specs.Prelude.{int_le, int_lt}
 use Rattle.std.specs.Ordering.{int_eq}
 use Rattle.std.proofs.lemmas.Int.{ints}
 use Rattle.std.proofs.lemmas.Bool.Decides.{same_from_decides, Decides-like}
+use Rattle.std.proofs.Math.Bool.{and-false}
 use Rattle.whole_algebra.proofs.Laws.{linear, *ℤ_one}
 use Rattle.whole_algebra.proofs.Signs.{not_≤ℤ, pos_nonzero, <ℤ_apart}
 use Rattle.plane_exact.proofs.PlaneOn.{Decides-int_le, Decides-is_on_segment}
@@ -15,6 +16,7 @@ use Rattle.plane_exact.specs.declared.point.Pt.{Pt}
 use Rattle.plane_exact.specs.declared.point.Seg.{Seg}
 use Rattle.plane_exact.specs.declared.sign.Sign.TheVariants.{Minus, Zero, Plus}
 use Rattle.point_set.specs.Rings.{is_on_edge, is_on_edges, is_low, is_odd, is_same_position, differ, crosses, crosses_from, edges_after, edge_before}
+use Rattle.point_set.proofs.ParityFlip.{crosses_none}
 use Rattle.area_locator.specs.Levels.{IsLevel}
 use Rattle.area_locator.specs.Touches.{touch_by, touch_of}
 use Rattle.area_locator.specs.declared.touch.Touch.TheVariants.{Holds, Crosses, Misses}
@@ -46,10 +48,6 @@ minus_is (pos zero) e = cc
 minus_is (pos (suc n)) e = cc
 minus_is (negsuc n) e = omega (arith, ints)
 
-and_not : (b : Bool) → (b && false) ≡ false
-and_not true = refl
-and_not false = refl
-
 crosses_plus : (l m : Bool) (t : ℤ) → pos 0 <ℤ t → crosses_from l m t ≡ (l && not m)
 crosses_plus true true t h = refl
 crosses_plus true false t h = lt_yes (pos 0) t h
@@ -61,12 +59,6 @@ crosses_minus true true t h = refl
 crosses_minus true false t h = lt_not (pos 0) t (omega (arith, linear, h))
 crosses_minus false true t h = lt_yes t (pos 0) h
 crosses_minus false false t h = refl
-
-crosses_zero : (l m : Bool) (t : ℤ) → t ≡ pos 0 → crosses_from l m t ≡ false
-crosses_zero true true t h = refl
-crosses_zero true false t h = lt_not (pos 0) t (omega (arith, linear, h))
-crosses_zero false true t h = lt_not t (pos 0) (omega (arith, linear, h))
-crosses_zero false false t h = refl
 
 abbrev turned : Point → Pt → Pt → ℤ
 turned p a b = turn (point_of a) (point_of b) p
@@ -87,17 +79,10 @@ touch_right {p} {f} {c} h a b e =
     ∙ (λ i. touch_by false (low_is h b i && not (low_is h a i)))
 
 pub touch_on_line : (p : Point) (a b : Pt) → sign_of (turned p a b) ≡ Zero → touch_of false p a b ≡ touch_by (is_on_edge p (record { a = a; b = b })) false
-touch_on_line p a b e = ap (touch_by (is_on_edge p (record { a = a; b = b }))) (crosses_zero (is_low p (point_of a)) (is_low p (point_of b)) (turned p a b) (zero_sign (turned p a b) e))
+touch_on_line p a b e = ap (touch_by (is_on_edge p (record { a = a; b = b }))) (crosses_none (is_low p (point_of a)) (is_low p (point_of b)) (turned p a b) (zero_sign (turned p a b) e))
 
 pub on_edge : (p : Point) (a b : Pt) → IsOnSegment (point_of a) (point_of b) p → is_on_edge p (record { a = a; b = b }) ≡ true
 on_edge p a b h = (Decides-is_on_segment (point_of a) (point_of b) p).1 h
-
-pub off_edge : (p : Point) (a b : Pt) → ¬ IsOnSegment (point_of a) (point_of b) p → is_on_edge p (record { a = a; b = b }) ≡ false
-off_edge p a b n = not_true (is_on_edge p (record { a = a; b = b })) (λ e. n ((Decides-is_on_segment (point_of a) (point_of b) p).0 e))
-  where
-    not_true : (r : Bool) → ¬ (r ≡ true) → r ≡ false
-    not_true true m = absurd (m refl)
-    not_true false m = refl
 
 -- ---- by the heights of the ends
 rises_apart : (u v : ℤ) → u <ℤ pos 0 → pos 0 <ℤ v → is_same_way u v ≡ false
@@ -112,8 +97,8 @@ misses false p a b h k = (λ i. touch_by (off i) (k i))
   where
     off : is_on_edge p (record { a = a; b = b }) ≡ false
     off = (λ i. int_eq (turned p a b) (pos 0) && (is_same_way (shift (point_of a) p) (shift p (point_of b)) && h i))
-        ∙ (λ i. int_eq (turned p a b) (pos 0) && and_not (is_same_way (shift (point_of a) p) (shift p (point_of b))) i)
-        ∙ and_not (int_eq (turned p a b) (pos 0))
+        ∙ (λ i. int_eq (turned p a b) (pos 0) && and-false (is_same_way (shift (point_of a) p) (shift p (point_of b))) i)
+        ∙ and-false (int_eq (turned p a b) (pos 0))
 
 le_not : (a b : ℤ) → b <ℤ a → int_le a b ≡ false
 le_not a b h = grind (arith, ints)
