@@ -3,7 +3,6 @@ use Rattle.std.proofs.Common.{◌≡◌, ℕ, ◌+◌, ◌%◌, ◌<◌, List, l
 use lib.Signed.{<ℤ_irrefl, <ℤ-≤ℤ_trans}
 use Rattle.whole_algebra.proofs.Laws.{linear}
 use Rattle.whole_algebra.proofs.Polynomials.{var, num, ◌⊕◌, ◌⊖◌, ◌⊗◌, minus, identity}
-use Rattle.whole_algebra.proofs.Signs.{by_sign, square_pos, square_nonneg, pos_nonzero, <ℤ_apart, pos-+-nonneg, nonneg-+-pos}
 use Rattle.whole_algebra.proofs.Computed.{Computes, read, product, sum, difference, stored}
 use Rattle.std.proofs.lemmas.Int.{ints}
 use Rattle.std.proofs.lemmas.Option.{slice_get-get_or}
@@ -16,14 +15,12 @@ use Rattle.plane_exact.specs.Orders.{bend}
 use Rattle.plane_exact.specs.declared.dir.Dir.{Dir}
 use Rattle.point_set.specs.Sectors.{direction_of, bend_of, PointSameWay, IsStrictlyWithin, IsMiddleBetween, IsMiddle, IsInSector}
 use Rattle.point_set.specs.Validity.{IsAtPlace}
+use Rattle.point_set.proofs.GermEdges.{squares}
 
 -- directions that point the same way don't bend
 no_bend : (d e : Dir) → PointSameWay (direction_of d) (direction_of e) → bend_of (direction_of d) (direction_of e) ≡ pos 0
 unfolding bend bend_of
 no_bend d e h = bend-same_way d e (record { m = h.m; n = h.n; some = h.some; other = h.other; across = h.across; above = h.above })
-
-squares_pos : (x y : ℤ) → ¬ ((x ≡ pos 0) × (y ≡ pos 0)) → pos 0 <ℤ ((x *ℤ x) +ℤ (y *ℤ y))
-squares_pos x y n = by_sign x (λ h. pos-+-nonneg (square_pos x (<ℤ_apart h)) (square_nonneg y)) (λ e. nonneg-+-pos (square_nonneg x) (square_pos y (λ z. n (e, z)))) (λ h. pos-+-nonneg (square_pos x (pos_nonzero h)) (square_nonneg y))
 
 clash : {z : ℤ} → pos 0 <ℤ z → z ≤ℤ pos 0 → ⊥
 clash h k = <ℤ_irrefl (<ℤ-≤ℤ_trans h k)
@@ -58,7 +55,7 @@ sum_turned r s h e = clash h (let z : (r.dx *ℤ s.dy) -ℤ (r.dy *ℤ s.dx) ≡
 module _ (r s m : Dir) (across : m.dx ≡ neg_ℤ r.dy) (above : m.dy ≡ r.dx) (h : bend_of (direction_of r) (direction_of s) ≤ℤ pos 0) where
   after_quarter : pos 0 <ℤ bend_of (direction_of r) (direction_of m)
   unfolding bend_of
-  after_quarter = subst (λ (z : ℤ). pos 0 <ℤ z) (identity (var 0 ⊗ var 0 ⊕ var 1 ⊗ var 1) (var 0 ⊗ var 0 ⊖ var 1 ⊗ minus (var 1)) (r.dx ∷ r.dy ∷ []) refl ∙ (λ i. (r.dx *ℤ sym above i) -ℤ (r.dy *ℤ sym across i))) (squares_pos r.dx r.dy r.way.turned)
+  after_quarter = subst (λ (z : ℤ). pos 0 <ℤ z) (identity (var 0 ⊗ var 0 ⊕ var 1 ⊗ var 1) (var 0 ⊗ var 0 ⊖ var 1 ⊗ minus (var 1)) (r.dx ∷ r.dy ∷ []) refl ∙ (λ i. (r.dx *ℤ sym above i) -ℤ (r.dy *ℤ sym across i))) (squares r.dx r.dy r.way.turned)
 
   pub quarter_is_within : IsStrictlyWithin (direction_of r) (direction_of s) (direction_of m)
   quarter_is_within = record {
