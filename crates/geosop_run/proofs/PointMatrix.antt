@@ -1,6 +1,7 @@
 -- The matrix of two figures that have points alone: each cell's dimension is that of the cell's set of points.
 use Rattle.std.proofs.Common.{◌≡◌, Bool, true, false, not, ◌||◌, ◌&&◌, List, [], ◌∷◌, ◌++◌, refl, sym, ◌∙◌, subst, inl, inr}
-use Rattle.std.proofs.lemmas.Bool.{or_cases, or_left, or_right, or_parts, or_from, true≢false, false≢true}
+use Rattle.std.proofs.lemmas.Bool.{or_cases, or_left, or_right, or_parts, or_from, true≢false, false≢true, not-true, not-false}
+use Rattle.std.proofs.Math.Bool.{or-false}
 use Rattle.std.specs.List.{list_any}
 use Rattle.std.specs.Ordering.{int_eq}
 use Rattle.whole_algebra.proofs.Laws.{*ℤ_one}
@@ -10,7 +11,7 @@ use Rattle.im_matrix.specs.declared.Cell.{Cell}
 use Rattle.plane_exact.specs.Plane.{Point, IsSamePoint}
 use Rattle.plane_exact.specs.Places.{point_of}
 use Rattle.plane_exact.specs.declared.point.Pt.{Pt}
-use Rattle.plane_exact.proofs.PlaneSame.{same_refl, same_test, Decides-is_same_point}
+use Rattle.plane_exact.proofs.PlaneSame.{same_refl, Decides-is_same_point}
 use Rattle.point_set.specs.declared.figure.Figure.{Figure}
 use Rattle.point_set.specs.declared.rule.Rule.{Rule}
 use Rattle.point_set.specs.declared.dim_loc.DimLoc.{DimLoc}
@@ -21,6 +22,7 @@ use Rattle.point_set.specs.Location.{IsKind, IsLocation, part_of}
 use Rattle.point_set.specs.Dimension.{IsDimension, HoldsTriangle, HoldsSegment, HoldsPoint}
 use Rattle.point_set.specs.Relation.{IsInCell}
 use Rattle.point_set.proofs.FinitePoints.{finite-no-segment, finite-no-triangle, finite-avoided}
+use Rattle.point_set.proofs.SamePoint.{is_at_some-same}
 use Rattle.geosop_run.specs.Points.{is_among, has_common, has_other, dimension_if, points_dimension}
 
 -- the figure that has these points and nothing else
@@ -33,17 +35,13 @@ Says positions p Interior = is_at_some p positions ≡ true
 Says positions p Boundary = ⊥
 Says positions p Exterior = is_at_some p positions ≡ false
 
-or_false : (t : Bool) → t || false ≡ t
-or_false true = refl
-or_false false = refl
-
 kind_says : (positions : List Pt) (rule : Rule) (p : Point) (k : DimLoc) → IsKind (points_figure positions) rule p k → Says positions p (part_of k)
 kind_says positions rule p kind.AreaInterior h = absurd (false≢true (h.covered p (record { s = h.strictly.s; t = h.strictly.t; u = h.strictly.u; mix = h.strictly.mix })))
 kind_says positions rule p kind.AreaBoundary h = absurd (false≢true h.0)
 kind_says positions rule p kind.LineBoundary h = absurd (false≢true h.1)
 kind_says positions rule p kind.LineInterior h = absurd (false≢true h.1)
-kind_says positions rule p kind.PointInterior h = sym (or_false (is_at_some p positions)) ∙ h.2
-kind_says positions rule p kind.Exterior h = sym (or_false (is_at_some p positions)) ∙ h.2
+kind_says positions rule p kind.PointInterior h = sym (or-false (is_at_some p positions)) ∙ h.2
+kind_says positions rule p kind.Exterior h = sym (or-false (is_at_some p positions)) ∙ h.2
 
 location_says : (positions : List Pt) (rule : Rule) (p : Point) (part : Loc) → IsLocation (points_figure positions) rule p part → Says positions p part
 location_says positions rule p part l =
@@ -52,14 +50,14 @@ location_says positions rule p part l =
 interior : (positions : List Pt) (rule : Rule) (p : Point) → is_at_some p positions ≡ true → IsLocation (points_figure positions) rule p Interior
 interior positions rule p h = record {
   decided_by = kind.PointInterior;
-  decides = (refl, refl, or_false (is_at_some p positions) ∙ h);
+  decides = (refl, refl, or-false (is_at_some p positions) ∙ h);
   gives = refl;
 }
 
 exterior : (positions : List Pt) (rule : Rule) (p : Point) → is_at_some p positions ≡ false → IsLocation (points_figure positions) rule p Exterior
 exterior positions rule p h = record {
   decided_by = kind.Exterior;
-  decides = (refl, refl, or_false (is_at_some p positions) ∙ h);
+  decides = (refl, refl, or-false (is_at_some p positions) ∙ h);
   gives = refl;
 }
 
@@ -70,10 +68,6 @@ at_position p q = λ i. int_eq (*ℤ_one p.x i) (*ℤ_one q.x i) && int_eq (*ℤ
 at_among : (p : Pt) (positions : List Pt) → is_at_some (point_of p) positions ≡ is_among p positions
 at_among p [] = refl
 at_among p (q ∷ others) = λ i. at_position p q i || at_among p others i
-
-at_same : {p p' : Point} → IsSamePoint p p' → (positions : List Pt) → is_at_some p positions ≡ is_at_some p' positions
-at_same h [] = refl
-at_same h (q ∷ others) = λ i. same_test h (same_refl (point_of q)) i || at_same h others i
 
 -- a position of a list that passes a test
 record Passes (test : Pt → Bool) (positions : List Pt) : Type 0 where
@@ -119,14 +113,6 @@ finite_dimension S positions f true some none =
     (λ h. finite-no-triangle positions (narrow_triangle f h), λ h. finite-no-segment positions (narrow_segment f h), some refl)
 finite_dimension S positions f false some none = none refl
 
-not_true : (t : Bool) → not t ≡ true → t ≡ false
-not_true true h = absurd (false≢true h)
-not_true false h = refl
-
-not_false : (t : Bool) → not t ≡ false → t ≡ true
-not_false true h = refl
-not_false false h = absurd (true≢false h)
-
 -- at none of two lists' positions
 free_of : (in_a in_b : List Pt) (p : Point) → is_at_some p (in_a ++ in_b) ≡ false → (is_at_some p in_a ≡ false) × (is_at_some p in_b ≡ false)
 free_of [] in_b p h = (refl, h)
@@ -150,17 +136,17 @@ module _ (in_a in_b : List Pt) (rule : Rule) where
         };
       })
       (λ t h. let r = at_one h.p in_a (location_says in_a rule h.p Interior h.held.in_a) in
-      true≢false (sym (location_says in_b rule h.p Interior h.held.in_b) ∙ at_same r.same in_b ∙ at_among r.q in_b ∙ r.fails (λ p. is_among p in_b) t))
+      true≢false (sym (location_says in_b rule h.p Interior h.held.in_b) ∙ is_at_some-same r.same in_b ∙ at_among r.q in_b ∙ r.fails (λ p. is_among p in_b) t))
 
   other_in : (in_one in_two : List Pt) (S : Point → Type 0) → ((p : Point) → S p → (is_at_some p in_one ≡ true) × (is_at_some p in_two ≡ false)) → ((p : Point) → is_at_some p in_one ≡ true → is_at_some p in_two ≡ false → S p) → IsDimension S (dimension_if (has_other in_one in_two))
   other_in in_one in_two S out into =
       finite_dimension S in_one (λ p h. (out p h).0) (has_other in_one in_two)
       (λ t. let r = some_passes (λ p. not (is_among p in_two)) in_one t in record {
         p = point_of r.q;
-        held = into (point_of r.q) r.there (at_among r.q in_two ∙ not_true (is_among r.q in_two) r.passed);
+        held = into (point_of r.q) r.there (at_among r.q in_two ∙ not-true (is_among r.q in_two) r.passed);
       })
       (λ t h. let r = at_one h.p in_one (out h.p h.held).0 in
-      true≢false (sym (not_false (is_among r.q in_two) (r.fails (λ p. not (is_among p in_two)) t)) ∙ sym (at_among r.q in_two) ∙ sym (at_same r.same in_two) ∙ (out h.p h.held).1))
+      true≢false (sym (not-false (is_among r.q in_two) (r.fails (λ p. not (is_among p in_two)) t)) ∙ sym (at_among r.q in_two) ∙ sym (is_at_some-same r.same in_two) ∙ (out h.p h.held).1))
 
   other_a : IsDimension (In Interior Exterior) (dimension_if (has_other in_a in_b))
   other_a =

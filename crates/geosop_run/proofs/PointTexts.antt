@@ -1,5 +1,5 @@
 -- Texts of points: a geometry whose type word is POINT or MULTIPOINT gives a figure of points alone.
-use Rattle.std.proofs.Common.{◌≡◌, ℕ, ◌<◌, ◌≤◌, Bool, true, false, cond, Option, Some, None, List, [], ◌∷◌, ◌⊎◌, inl, inr, refl, sym, ap, subst, ◌∙◌, arith, option_map, take_while, drop, ◌==◌, codes}
+use Rattle.std.proofs.Common.{◌≡◌, ℕ, ◌<◌, ◌≤◌, Bool, true, false, cond, Option, Some, None, List, [], ◌∷◌, inl, inr, refl, sym, ap, subst, ◌∙◌, arith, option_map, take_while, drop, ◌==◌, codes}
 use Rattle.std.specs.List.{prefix_len}
 use Rattle.std.specs.Char.{is_ascii_alphabetic}
 use Rattle.std.proofs.lemmas.Bool.{true≢false}
@@ -8,25 +8,19 @@ use Rattle.point_set.specs.declared.figure.Figure.{Figure}
 use Rattle.wkt_text.specs.Bytes.{is_white}
 use Rattle.wkt_text.specs.Words.{type_of, tag_of, type_at}
 use Rattle.wkt_text.specs.Tokens.{lexeme_at, token_in, word_in, number_in, place_of, word_token, is_name, is_number_start, type_token, tag_token, mark}
-use Rattle.wkt_text.specs.Grammar.{Slot, slot, Simple, empty_point, point, line, polygon, points, lines, polygons, Writing, joined, apart, tag_of_writing, Geometry, simple, empty_collection, collection, simple_then, type_of_simple, head_then, depth_role, geometry_then, geometries_then, gap_then, spelling}
+use Rattle.wkt_text.specs.Grammar.{Simple, empty_point, point, line, polygon, points, lines, polygons, Writing, tag_of_writing, Geometry, simple, empty_collection, collection, type_of_simple}
 use Rattle.wkt_text.specs.Figures.{figure_of}
-use Rattle.wkt_text.specs.Faults.{Stands, tokens_of, Reads}
+use Rattle.wkt_text.specs.Faults.{Stands, Reads}
 use Rattle.wkt_text.specs.declared.word.TypeWord.{TypeWord}
 use Rattle.wkt_text.specs.declared.word.TypeWord.TheVariants as type
 use Rattle.wkt_text.specs.declared.word.Tag.{Tag}
-use Rattle.wkt_text.specs.declared.word.Tag.TheVariants.{Plain}
 use Rattle.wkt_text.specs.declared.token.Token.{Token}
 use Rattle.wkt_text.specs.declared.token.Token.TheVariants as token
-use Rattle.wkt_text.specs.declared.control.Role.{Role}
-use Rattle.wkt_text.specs.declared.control.Role.TheVariants as role
 use Rattle.wkt_text.specs.declared.number.Numeral.{Numeral}
 use Rattle.wkt_text.proofs.Progress.{lexeme_moves}
+use Rattle.wkt_text.proofs.Exact.{type_of_geometry, spelling_first, type_is_no_end}
 use Rattle.geosop_run.specs.Points.{HasPointsAlone}
 use Rattle.geosop_run.specs.Sources.{is_unbuilt}
-
-either : (b : Bool) → (b ≡ true) ⊎ (b ≡ false)
-either true = inl refl
-either false = inr refl
 
 -- ---- the end of a text lies behind its beginning
 lexeme_onward : (scale : ℕ) (bytes : List ℕ) (from : ℕ) → from ≤ (lexeme_at scale bytes from).«end»
@@ -37,9 +31,6 @@ stands_onward : (scale : ℕ) (bytes : List ℕ) (from : ℕ) (ts : List Token) 
 stands_onward scale bytes from [] last h = omega arith
 stands_onward scale bytes from (t ∷ ts) last h =
     omega (arith, lexeme_onward scale bytes from, stands_onward scale bytes (lexeme_at scale bytes from).«end» ts last h.1)
-
-type_is_no_end : (kind : TypeWord) (t : Tag) → ◌≡◌ {A = Token} token.End (token.Type kind t) → ⊥
-type_is_no_end kind t e = cc
 
 type_onward : (scale : ℕ) (bytes : List ℕ) (from : ℕ) (kind : TypeWord) (t : Tag) (more : List Token) (last : ℕ) → Stands scale bytes from (token.Type kind t ∷ more) last → from < last
 type_onward scale bytes from kind t more last h = elim (lexeme_moves scale bytes from) [
@@ -100,28 +91,6 @@ lexeme_type scale bytes from kind t e =
     ap (λ text. option_map (λ x. x.0) (type_of (take_while is_ascii_alphabetic text))) (drop-drop (prefix_len is_white (drop from bytes)) from bytes)
     ∙ text_type scale (drop (place_of bytes from) bytes) kind t e
 
--- the type word of a geometry, and that it is spelled first
-abbrev type_of_geometry : Geometry → TypeWord
-type_of_geometry (simple w s) = type_of_simple s
-type_of_geometry (empty_collection w) = type.GeometryCollection
-type_of_geometry (collection w g gs) = type.GeometryCollection
-
-record SpelledFirst (g : Geometry) : Type 0 where
-  tag : Tag
-  more : List Token
-  is : tokens_of (spelling g) ≡ token.Type (type_of_geometry g) tag ∷ more
-
-head_spelled : (r : Role) (kind : TypeWord) (w : Writing) (rest : List Slot) → (t : Tag) × (more : List Token) × (tokens_of (head_then r kind w rest) ≡ token.Type kind t ∷ more)
-head_spelled r kind (joined t) rest = (t, tokens_of rest, refl)
-head_spelled r kind (apart t) rest = (Plain, token.Tag t ∷ tokens_of rest, refl)
-
-spelled_first : (g : Geometry) → SpelledFirst g
-spelled_first (simple w s) = let h = head_spelled role.Head (type_of_simple s) w (simple_then s []) in record { tag = h.0; more = h.1; is = h.2 }
-spelled_first (empty_collection w) = let h = head_spelled (depth_role 0) type.GeometryCollection w (gap_then []) in record { tag = h.0; more = h.1; is = h.2 }
-spelled_first (collection w g gs) =
-    let h = head_spelled (depth_role 0) type.GeometryCollection w (slot token.Open role.Mark ∷ geometry_then g 1 (geometries_then gs 1 (slot token.Close role.Mark ∷ []))) in
-    record { tag = h.0; more = h.1; is = h.2 }
-
 -- ---- a geometry of points gives points alone
 abbrev IsPointType : TypeWord → Type 0
 IsPointType type.Point = Unit {0}
@@ -154,15 +123,15 @@ of_points (collection w g gs) k = absurd k
 
 pub reads_points : (scale : ℕ) (bytes : List ℕ) (from : ℕ) (f : Figure) (last : ℕ) → is_unbuilt (type_at bytes from) ≡ false → Reads scale bytes from f last → HasPointsAlone f
 reads_points scale bytes from f last built r =
-    let first = spelled_first r.geometry in
-    let stands = subst (λ (u : List Token). Stands scale bytes from u last) first.is r.stands in
-    let kind = lexeme_type scale bytes from (type_of_geometry r.geometry) first.tag stands.0 in
+    let (tag, more, first) = spelling_first r.geometry in
+    let stands = subst (λ (u : List Token). Stands scale bytes from u last) first r.stands in
+    let kind = lexeme_type scale bytes from (type_of_geometry r.geometry) tag stands.0 in
     subst HasPointsAlone (sym r.says)
     (of_points r.geometry (built_type (type_of_geometry r.geometry) (ap is_unbuilt (sym kind) ∙ built)))
 
 -- the end of a text that is read lies behind its beginning
 pub reads_onward : (scale : ℕ) (bytes : List ℕ) (from : ℕ) (f : Figure) (last : ℕ) → Reads scale bytes from f last → from < last
 reads_onward scale bytes from f last r =
-    let first = spelled_first r.geometry in
-    type_onward scale bytes from (type_of_geometry r.geometry) first.tag first.more last
-    (subst (λ (u : List Token). Stands scale bytes from u last) first.is r.stands)
+    let (tag, more, first) = spelling_first r.geometry in
+    type_onward scale bytes from (type_of_geometry r.geometry) tag more last
+    (subst (λ (u : List Token). Stands scale bytes from u last) first r.stands)
