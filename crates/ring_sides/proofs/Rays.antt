@@ -65,17 +65,14 @@ turn_of_middle a b e =
     (a.x ∷ a.y ∷ b.x ∷ b.y ∷ e.a.x ∷ e.a.y ∷ e.b.x ∷ e.b.y ∷ []) refl
 
 -- ---- the ray
+not_one : pos 1 ≡ pos 0 → ⊥
+not_one h = omega (arith, linear, h)
+
 rightward : Direction
 rightward = record { x = pos 1; y = pos 0; moves = λ h. not_one h.0 }
-  where
-    not_one : pos 1 ≡ pos 0 → ⊥
-    not_one h = omega (arith, linear, h)
 
 upward : Direction
 upward = record { x = pos 0; y = pos 1; moves = λ h. not_one h.1 }
-  where
-    not_one : pos 1 ≡ pos 0 → ⊥
-    not_one h = omega (arith, linear, h)
 
 low_is : (p v : ℤ) (b : Bool) → MatchBool b ((v *ℤ pos 2) ≤ℤ (p *ℤ pos 1)) ((p *ℤ pos 1) <ℤ (v *ℤ pos 2)) → int_le (v *ℤ pos 2) (p *ℤ pos 1) ≡ b
 low_is p v b h =

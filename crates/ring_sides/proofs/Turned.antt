@@ -3,6 +3,7 @@ use Rattle.std.proofs.Common.{◌≡◌, ℕ, zero, suc, neg_ℤ, Bool, true, fa
 use Rattle.std.specs.Bool.{Decides}
 use Rattle.std.specs.Ordering.{int_eq}
 use Rattle.std.proofs.lemmas.Bool.Decides.{Decides-int_eq, Decides-and, Decides-like, same_from_decides}
+use Rattle.std.proofs.Math.Bool.{or_comm}
 use Rattle.std.proofs.lemmas.List.{reverse-append, append_assoc}
 use Rattle.std.proofs.lemmas.List.Folds.{list_any-append}
 use Rattle.whole_algebra.proofs.Laws.{linear}
@@ -84,12 +85,6 @@ on_swap : (v : Point) (p q : Pt) → is_on_edge v (record { a = q; b = p }) ≡ 
 on_swap v p q =
     same_from_decides (is_on_edge v (record { a = q; b = p })) (is_on_edge v (record { a = p; b = q })) (Decides-is_on_segment (point_of q) (point_of p) v)
     (Decides-like (is_on_edge v (record { a = p; b = q })) segment_flip segment_flip (Decides-is_on_segment (point_of p) (point_of q) v))
-
-or_comm : (b c : Bool) → (b || c) ≡ (c || b)
-or_comm true true = refl
-or_comm true false = refl
-or_comm false true = refl
-or_comm false false = refl
 
 on_before : (v : Point) (same : Bool) (p q : Pt) (edges : List Seg) → (is_on_edges v edges || is_on_edges v (edge_before same q p [])) ≡ is_on_edges v (edge_before same p q edges)
 on_before v true p q edges = or_comm (is_on_edges v edges) false
