@@ -13,13 +13,16 @@ use crate::scale::Scale;
 use crate::token::{Lexeme, next_token};
 use point_set::Figure;
 use std::alloc::Global;
+use thiserror::Error;
 
 /// Why a text isn't read.
-#[derive(Clone, Copy, Debug, PartialEq, Eq)]
+#[derive(Clone, Copy, Debug, PartialEq, Eq, Error)]
 pub enum WktFault {
     /// Its first fault, and the place of that token's first byte.
+    #[error("the text is not a geometry that can be read")]
     Bad(WktKind, usize),
     /// Memory is wanting.
+    #[error("out of memory")]
     NoMemory,
 }
 
