@@ -46,7 +46,7 @@ fn reading(rt: &HostRuntime, text: &[u8], at: usize) -> Answer {
 }
 
 #[test]
-fn rows(rt: HostRuntime) -> Result<(), Fail> {
+fn rows_of_points(rt: HostRuntime) -> Result<(), Fail> {
     assert_eq!(rt; reading(&rt, b"", 0), Answer::None);
     assert_eq!(rt;
         reading(&rt, b"POINT(1 2)", 0),
@@ -68,6 +68,11 @@ fn rows(rt: HostRuntime) -> Result<(), Fail> {
         reading(&rt, b"POINT (1 2 3 4 5)", 0),
         Answer::Bad(WktKind::Ragged, 15)
     );
+    Ok(())
+}
+
+#[test]
+fn rows_of_lines_and_rings(rt: HostRuntime) -> Result<(), Fail> {
     assert_eq!(rt;
         reading(&rt, b"LINESTRING (1 1)", 0),
         Answer::Bad(WktKind::LineShort, 15)
@@ -81,8 +86,12 @@ fn rows(rt: HostRuntime) -> Result<(), Fail> {
         Answer::Bad(WktKind::RingShort, 23)
     );
     assert_eq!(rt;
-        reading(&rt, b"CIRCLE (0 0)", 0),
-        Answer::Bad(WktKind::UnknownType, 0)
+        reading(&rt, b"POLYGON ((0 0, 4 4, 4 0,", 0),
+        Answer::Bad(WktKind::Syntax, 24)
+    );
+    assert_eq!(rt;
+        reading(&rt, b"POLYGON (EMPTY, EMPTY)", 0),
+        Answer::Figure(0, 0, 0, 0, 0, 22)
     );
     Ok(())
 }
@@ -110,18 +119,6 @@ fn rows_of_numbers(rt: HostRuntime) -> Result<(), Fail> {
         Answer::Bad(WktKind::Syntax, 7)
     );
     assert_eq!(rt;
-        reading(&rt, b"POINT (1 2) x", 0),
-        Answer::Figure(1, 0, 0, 1, 2, 11)
-    );
-    assert_eq!(rt;
-        reading(&rt, b"POINT (1 2) x", 11),
-        Answer::Bad(WktKind::UnknownType, 12)
-    );
-    assert_eq!(rt;
-        reading(&rt, b"POINT ()", 0),
-        Answer::Bad(WktKind::Syntax, 7)
-    );
-    assert_eq!(rt;
         reading(
             &rt,
             b"POINT (00000000000000000000000000000000000000000000000000000000000000000 0)",
@@ -129,9 +126,26 @@ fn rows_of_numbers(rt: HostRuntime) -> Result<(), Fail> {
         ),
         Answer::Bad(WktKind::LongNumber, 7)
     );
+    Ok(())
+}
+
+#[test]
+fn rows_of_words_and_places(rt: HostRuntime) -> Result<(), Fail> {
     assert_eq!(rt;
-        reading(&rt, b"POLYGON (EMPTY, EMPTY)", 0),
-        Answer::Figure(0, 0, 0, 0, 0, 22)
+        reading(&rt, b"CIRCLE (0 0)", 0),
+        Answer::Bad(WktKind::UnknownType, 0)
+    );
+    assert_eq!(rt;
+        reading(&rt, b"POINT ()", 0),
+        Answer::Bad(WktKind::Syntax, 7)
+    );
+    assert_eq!(rt;
+        reading(&rt, b"POINT (1 2) x", 0),
+        Answer::Figure(1, 0, 0, 1, 2, 11)
+    );
+    assert_eq!(rt;
+        reading(&rt, b"POINT (1 2) x", 11),
+        Answer::Bad(WktKind::UnknownType, 12)
     );
     Ok(())
 }
