@@ -186,6 +186,14 @@ fn ring_of(alloc: Global, positions: &[(i64, i64)]) -> Result<Path, NoMemory> {
     Ok(ring)
 }
 
+fn rings_of(alloc: Global, list: &[&[(i64, i64)]]) -> Result<Paths, NoMemory> {
+    let mut rings = Paths::new(alloc);
+    for positions in list {
+        rings.push(ring_of(alloc, positions)?)?;
+    }
+    Ok(rings)
+}
+
 fn part_of(sign: u8) -> Loc {
     match sign {
         b'#' => Loc::Interior,
@@ -200,17 +208,23 @@ fn node_at(row: usize, column: usize) -> Result<Node, Fail> {
     Ok(Node::reduce(x, y, 2))
 }
 
-fn assert_ring(rt: &impl Abort, ring: &Path, rows: &[&str]) -> Result<(), Fail> {
+/// One row of a ring's table.
+fn assert_ring_row(rt: &impl Abort, ring: &Path, row: usize, signs: &str) -> Result<(), Fail> {
     assert!(rt; is_in_limit(ring));
+    for (column, sign) in signs.bytes().enumerate() {
+        let node = node_at(row, column)?;
+        assert_eq!(rt;
+            ring_locate(ring, &node),
+            part_of(sign),
+            "at {row} {column}"
+        );
+    }
+    Ok(())
+}
+
+fn assert_ring(rt: &impl Abort, ring: &Path, rows: &[&str]) -> Result<(), Fail> {
     for (row, signs) in rows.iter().enumerate() {
-        for (column, sign) in signs.bytes().enumerate() {
-            let node = node_at(row, column)?;
-            assert_eq!(rt;
-                ring_locate(ring, &node),
-                part_of(sign),
-                "at {row} {column}"
-            );
-        }
+        assert_ring_row(rt, ring, row, signs)?;
     }
     Ok(())
 }
@@ -225,29 +239,30 @@ fn rings_agree_with_their_tables(rt: HostRuntime) -> Result<(), Fail> {
     Ok(())
 }
 
+/// One row of an area's table.
+fn assert_area_row(rt: &impl Abort, area: &Area, row: usize, signs: &str) -> Result<(), Fail> {
+    assert!(rt; is_in_limit(&area.shell));
+    assert!(rt; are_in_limit(&area.holes));
+    for (column, sign) in signs.bytes().enumerate() {
+        let node = node_at(row, column)?;
+        assert_eq!(rt;
+            locate_plain(area, &node),
+            part_of(sign),
+            "at {row} {column}"
+        );
+    }
+    Ok(())
+}
+
 #[test]
 fn an_area_agrees_with_its_table(rt: HostRuntime) -> Result<(), Fail> {
-    let mut holes = Paths::new(rt.alloc());
-    for hole in [HOLE, HOLE_AT_SHELL, HOLE_OUTSIDE] {
-        holes.push(ring_of(rt.alloc(), hole)?)?;
-    }
-    let shell = ring_of(rt.alloc(), SHELL)?;
-    assert!(rt; is_in_limit(&shell));
-    assert!(rt; are_in_limit(&holes));
     let area = Area {
-        shell,
-        holes,
+        shell: ring_of(rt.alloc(), SHELL)?,
+        holes: rings_of(rt.alloc(), &[HOLE, HOLE_AT_SHELL, HOLE_OUTSIDE])?,
         group: 0,
     };
     for (row, signs) in AREA_ROWS.iter().enumerate() {
-        for (column, sign) in signs.bytes().enumerate() {
-            let node = node_at(row, column)?;
-            assert_eq!(rt;
-                locate_plain(&area, &node),
-                part_of(sign),
-                "at {row} {column}"
-            );
-        }
+        assert_area_row(&rt, &area, row, signs)?;
     }
     Ok(())
 }

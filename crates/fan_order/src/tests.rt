@@ -36,6 +36,22 @@ fn is_short(d: Dir) -> bool
     d.dx.unsigned_abs() <= 2_097_150 && d.dy.unsigned_abs() <= 2_097_150
 }
 
+fn assert_rays(rt: &impl Abort, fan: &Fan, rays: &[(i64, i64)]) {
+    for (i, (dx, dy)) in rays.iter().enumerate() {
+        assert!(rt; i < fan.rays());
+        let ray = fan.ray(i);
+        assert_eq!(rt; (ray.dx, ray.dy), (*dx, *dy), "ray {i}");
+    }
+}
+
+fn assert_middles(rt: &impl Abort, fan: &Fan, middles: &[(i64, i64)]) {
+    for (i, (dx, dy)) in middles.iter().enumerate() {
+        assert!(rt; i < fan.sectors());
+        let middle = fan.middle(i);
+        assert_eq!(rt; (middle.dx, middle.dy), (*dx, *dy), "middle {i}");
+    }
+}
+
 /// The rays of a fan, each with the middle of the sector after it.
 fn assert_fan(
     rt: &impl Abort,
@@ -49,16 +65,8 @@ fn assert_fan(
     assert_eq!(rt; fan.rays(), rays.len());
     assert_eq!(rt; fan.sectors(), middles.len());
     assert_eq!(rt; fan.sections().len(), sections.len());
-    for (i, (dx, dy)) in rays.iter().enumerate() {
-        assert!(rt; i < fan.rays());
-        let ray = fan.ray(i);
-        assert_eq!(rt; (ray.dx, ray.dy), (*dx, *dy), "ray {i}");
-    }
-    for (i, (dx, dy)) in middles.iter().enumerate() {
-        assert!(rt; i < fan.sectors());
-        let middle = fan.middle(i);
-        assert_eq!(rt; (middle.dx, middle.dy), (*dx, *dy), "middle {i}");
-    }
+    assert_rays(rt, &fan, rays);
+    assert_middles(rt, &fan, middles);
     Ok(())
 }
 

@@ -1,6 +1,7 @@
 // Texts of matrices and patterns, and the names against the table as users know it.
 
 use super::*;
+use std::process::Abort;
 use std::test::Fail;
 
 const INTERIORS: Cell = Cell {
@@ -9,6 +10,20 @@ const INTERIORS: Cell = Cell {
 };
 
 const DIMS: [Dim; 4] = [Dim::Empty, Dim::Zero, Dim::One, Dim::Two];
+
+const NAMES: [Name; 11] = [
+    Name::Intersects,
+    Name::Disjoint,
+    Name::Contains,
+    Name::Within,
+    Name::Covers,
+    Name::CoveredBy,
+    Name::Touches,
+    Name::Crosses,
+    Name::Overlaps,
+    Name::Equals,
+    Name::ContainsProperly,
+];
 
 #[test]
 fn texts(rt: HostRuntime) -> Result<(), Fail> {
@@ -62,44 +77,56 @@ fn fits(pattern: &str, text: &[u8]) -> bool {
     })
 }
 
+// Whether a name is true of a matrix with this text, by the table.
+fn by_the_table(name: Name, a: Dim, b: Dim, text: &[u8]) -> bool {
+    let some = patterns(name, a, b).iter().any(|p| fits(p, text));
+    if name == Name::Intersects {
+        !some
+    } else {
+        some
+    }
+}
+
+// The matrix with this dimension where the interiors meet, and in the next seven cells One by the bits.
+fn matrix_of(ii: Dim, bits: u8) -> Matrix {
+    let mut m = Matrix::start();
+    m.raise(INTERIORS, ii);
+    let mut rest = bits;
+    for &c in &Cell::ALL[1..8] {
+        m.raise(c, if rest % 2 == 1 { Dim::One } else { Dim::Empty });
+        rest /= 2;
+    }
+    m
+}
+
+fn assert_names(rt: &impl Abort, a: Dim, b: Dim, m: &Matrix) {
+    let text = m.text();
+    for name in NAMES {
+        assert_eq!(rt; named(name, a, b, m), by_the_table(name, a, b, &text));
+    }
+}
+
+fn assert_names_at_each_b(rt: &impl Abort, a: Dim, m: &Matrix) {
+    for b in DIMS {
+        assert_names(rt, a, b, m);
+    }
+}
+
+fn assert_names_at_each_pair(rt: &impl Abort, m: &Matrix) {
+    for a in DIMS {
+        assert_names_at_each_b(rt, a, m);
+    }
+}
+
+fn assert_matrices_with(rt: &impl Abort, ii: Dim) {
+    for bits in 0u8..128 {
+        assert_names_at_each_pair(rt, &matrix_of(ii, bits));
+    }
+}
+
 #[test]
 fn names_by_the_table(rt: HostRuntime) {
-    let names = [
-        Name::Intersects,
-        Name::Disjoint,
-        Name::Contains,
-        Name::Within,
-        Name::Covers,
-        Name::CoveredBy,
-        Name::Touches,
-        Name::Crosses,
-        Name::Overlaps,
-        Name::Equals,
-        Name::ContainsProperly,
-    ];
     for ii in DIMS {
-        for bits in 0u8..128 {
-            let mut m = Matrix::start();
-            m.raise(INTERIORS, ii);
-            let mut rest = bits;
-            for &c in &Cell::ALL[1..8] {
-                m.raise(c, if rest % 2 == 1 { Dim::One } else { Dim::Empty });
-                rest /= 2;
-            }
-            let text = m.text();
-            for name in names {
-                for a in DIMS {
-                    for b in DIMS {
-                        let some = patterns(name, a, b).iter().any(|p| fits(p, &text));
-                        let expected = if name == Name::Intersects {
-                            !some
-                        } else {
-                            some
-                        };
-                        assert_eq!(rt; named(name, a, b, &m), expected);
-                    }
-                }
-            }
-        }
+        assert_matrices_with(&rt, ii);
     }
 }
