@@ -40,10 +40,16 @@ fn files_of(alloc: Global) -> Result<NamedBytes, NoMemory> {
     Ok(files)
 }
 
-fn run_words<R: Threads + Sync + AllocGlobal>(rt: &R, list: &[&str]) -> Result<Outcome, NoMemory> {
+// Runs the words on these files, of which a read gives at most so many bytes, and at least one.
+fn run_on<R: Threads + Sync + AllocGlobal>(
+    rt: &R,
+    list: &[&str],
+    files: NamedBytes,
+    piece: usize,
+) -> Result<Outcome, NoMemory> {
     let alloc = rt.alloc();
     let words = words_of(alloc, list)?;
-    let mut inputs = MemInputs::new(files_of(alloc)?, PlaceList::new(alloc), 7);
+    let mut inputs = MemInputs::new(files, PlaceList::new(alloc), piece.max(1));
     let mut out = MemSink::new(alloc, 1000, PlaceList::new(alloc))?;
     let mut err = MemSink::new(alloc, 1000, PlaceList::new(alloc))?;
     let status = run(
@@ -56,6 +62,10 @@ fn run_words<R: Threads + Sync + AllocGlobal>(rt: &R, list: &[&str]) -> Result<O
         &Free,
     );
     Ok(Outcome { status, out, err })
+}
+
+fn run_words<R: Threads + Sync + AllocGlobal>(rt: &R, list: &[&str]) -> Result<Outcome, NoMemory> {
+    run_on(rt, list, files_of(rt.alloc())?, 7)
 }
 
 fn relate<R: Threads + Sync + AllocGlobal>(rt: &R, a: &str, b: &str) -> Result<Outcome, NoMemory> {
@@ -137,15 +147,14 @@ fn first_refusals(rt: HostRuntime) -> Result<(), Fail> {
         )?
     );
     let unknown = Refusal::Text(Which::A, 2, WktKind::UnknownType, 12);
-    assert!(rt;
-        refuses(
-            &rt,
-            "POINT (0 0) x",
-            "POINT (",
-            unknown,
-            "geosop: A 2: UnknownType at 12\n"
-        )?
-    );
+    let line = "geosop: A 2: UnknownType at 12\n";
+    assert!(rt; refuses(&rt, "POINT (0 0) x", "POINT (0 0)", unknown, line)?);
+    assert!(rt; refuses(&rt, "POINT (0 0) x", "POINT (", unknown, line)?);
+    Ok(())
+}
+
+#[test]
+fn refused_numbers(rt: HostRuntime) -> Result<(), Fail> {
     let wide = Refusal::Text(Which::A, 1, WktKind::TooWide, 7);
     assert!(rt;
         refuses(
@@ -166,6 +175,27 @@ fn first_refusals(rt: HostRuntime) -> Result<(), Fail> {
             "geosop: A 1: NotWhole at 7\n"
         )?
     );
+    Ok(())
+}
+
+// A run whose A is a file of so many spaces.
+fn relate_spaces<R: Threads + Sync + AllocGlobal>(
+    rt: &R,
+    count: usize,
+) -> Result<Outcome, NoMemory> {
+    let alloc = rt.alloc();
+    let spaces = vec![in alloc; b' '; count]?;
+    let mut files = NamedBytes::new(alloc);
+    files.add("spaces.wkt", spaces.as_slice())?;
+    let list = ["geosop", "-a", "spaces.wkt", "-b", "POINT (0 0)", "relate"];
+    run_on(rt, &list, files, 65_536)
+}
+
+#[test]
+fn one_byte_too_many(rt: HostRuntime) -> Result<(), Fail> {
+    assert!(rt; relate_spaces(&rt, 33_554_432)?.is(Status::Ok, "", ""));
+    let too_long = Status::Refused(Refusal::TooLong(Which::A));
+    assert!(rt; relate_spaces(&rt, 33_554_433)?.is(too_long, "", "geosop: A: TooLong\n"));
     Ok(())
 }
 
