@@ -37,15 +37,14 @@ rising-and p q rp rq now later more h =
 
 -- a value that no later matrix can change
 pub known_value : (test : Matrix → Bool) (m : Matrix) (v : Bool) → ((later : Matrix) → IsAtLeast later m → test later ≡ v) → IsKnown test m (Some v)
-known_value test m v all w =
-    (λ same. (let e : v ≡ w = cc in λ later more. all later more ∙ e), λ h. (let e : v ≡ w = sym (all m (itself m)) ∙ h m (itself m) in cc))
+known_value test m v all = all
 
 -- no value, where two later matrices give different ones
 pub known_none :
     (test : Matrix → Bool) (m x y : Matrix) → IsAtLeast x m → IsAtLeast y m → test x ≡ false → test y ≡ true
     → IsKnown test m None
-known_none test m x y mx my ex ey w =
-    (λ e. cc, λ h. absurd (let e : false ≡ true = sym ex ∙ h x mx ∙ sym (h y my) ∙ ey in cc))
+known_none test m x y mx my ex ey =
+    record { one = x; other = y; one_later = mx; other_later = my; differ = λ same. (let e : false ≡ true = sym ex ∙ same ∙ ey in cc) }
 
 -- the test asks for p and no q: it is false for good where q is true, and open elsewhere, if some
 -- later matrix has p and no more of q

@@ -11,7 +11,7 @@ use Rattle.topo_pred.specs.declared.Query.TheVariants.{Relate, Named, Match}
 use Rattle.topo_pred.specs.declared.Answer.{Answer}
 use Rattle.topo_pred.specs.declared.Answer.TheVariants.{Im, Truth}
 use Rattle.topo_pred.specs.declared.Progress.{Progress}
-use Rattle.topo_pred.specs.Later.{IsAtLeast}
+use Rattle.topo_pred.specs.Later.{IsAtLeast, IsUndecided}
 
 -- the value of a query on a matrix: the matrix itself, or whether the name or the pattern fits it
 abbrev pub value_of : Query → Dim → Dim → Matrix → Answer
@@ -35,9 +35,14 @@ value_at p m = value_of p.query p.dim_a p.dim_b m
 abbrev pub IsSettled : Progress → Bool → Type 0
 IsSettled p v = (later : Matrix) → IsAtLeast later (matrix_of p) → value_at p later ≡ Truth v
 
--- what is still to come decides
+-- the query is open: it asks for the matrix, or two matrices that are at least this one give it different values
+pub data IsOpenAt (query : Query) (a b : Dim) (m : Matrix) : Type 0 where
+  asks_matrix : query ≡ Relate → IsOpenAt query a b m
+  undecided : IsUndecided Answer (value_of query a b) m → IsOpenAt query a b m
+
+-- the query that is asked is open
 abbrev pub IsOpen : Progress → Type 0
-IsOpen p = (v : Bool) → ¬ IsSettled p v
+IsOpen p = IsOpenAt p.query p.dim_a p.dim_b p.matrix
 
 -- the new matrix has this cell raised to the dimension, and every other cell as before
 pub record IsRaised (old new : Matrix) (c : Cell) (d : Dim) : Type 0 where

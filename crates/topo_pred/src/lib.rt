@@ -7,7 +7,7 @@ ghost use Rattle.im_matrix.specs.declared.Cell.{Cell};
 ghost use Rattle.im_matrix.specs.declared.Matrix.{Matrix};
 ghost use Rattle.im_matrix.specs.Cells.{greater, dimension_at, start_dimension};
 ghost use Rattle.topo_pred.specs.Later.{IsAtLeast};
-ghost use Rattle.topo_pred.specs.Values.{value_of, query_of, matrix_of, value_at, IsSettled, IsOpen, IsRaised, KnownIsFinal};
+ghost use Rattle.topo_pred.specs.Values.{value_of, query_of, matrix_of, value_at, IsSettled, IsOpen, IsOpenAt, IsRaised, KnownIsFinal};
 
 mod outlook;
 
@@ -62,6 +62,7 @@ impl Progress {
     pub fn known(&self) -> Option<bool>
         ensures settled { (v : Bool) → (result ≡ Some v) ↔ IsSettled self.now v }
         ensures open { IfNone result (IsOpen self.now) }
+        ensures none { IsOpen self.now → result ≡ None }
         ensures relate { query_of self.now ≡ Query.Relate → result ≡ None }
     {
         query_known(&self.query, self.dim_a, self.dim_b, &self.matrix)
@@ -93,8 +94,9 @@ impl Progress {
 
 /// What is known of a query's value on this matrix and all that are at least it.
 fn query_known(query: &Query, dim_a: Dim, dim_b: Dim, m: &Matrix) -> Option<bool>
-    ensures { (v : Bool) → (result ≡ Some v) ↔ (
+    ensures settled { (v : Bool) → (result ≡ Some v) ↔ (
         (later : Matrix) → IsAtLeast later m.now → value_of query.now dim_a dim_b later ≡ Answer.Truth v) }
+    ensures open { IfNone result (IsOpenAt query.now dim_a dim_b m.now) }
 {
     match query {
         Query::Relate => None,
@@ -120,6 +122,11 @@ mod tests {
         b: Loc::Interior,
     };
 
+    const BOUNDARIES: Cell = Cell {
+        a: Loc::Boundary,
+        b: Loc::Boundary,
+    };
+
     #[test]
     fn contains_is_refuted_by_a_point_outside(rt: HostRuntime) {
         let mut p = Progress::new(Query::Named(Name::Contains), Dim::Two, Dim::Two);
@@ -141,24 +148,23 @@ mod tests {
     }
 
     #[test]
-    fn one_common_point_decides(rt: HostRuntime) -> Result<(), Fail> {
-        let boundaries = Cell {
-            a: Loc::Boundary,
-            b: Loc::Boundary,
-        };
+    fn one_common_point_decides(rt: HostRuntime) {
         let mut meets = Progress::new(Query::Named(Name::Intersects), Dim::One, Dim::Two);
         let before = meets.known();
         assert_eq!(rt; before, None);
-        meets.feed(boundaries, Dim::Zero);
+        meets.feed(BOUNDARIES, Dim::Zero);
         assert_eq!(rt; meets.known(), Some(true));
+        known_is_final();
+    }
 
+    #[test]
+    fn one_common_point_decides_a_pattern(rt: HostRuntime) -> Result<(), Fail> {
         let pattern = Query::Match(Pattern::parse("****T***2")?);
         let mut fits = Progress::new(pattern, Dim::One, Dim::Two);
         let before = fits.known();
         assert_eq!(rt; before, None);
-        fits.feed(boundaries, Dim::Zero);
+        fits.feed(BOUNDARIES, Dim::Zero);
         assert_eq!(rt; fits.known(), Some(true));
-        known_is_final();
         Ok(())
     }
 
@@ -167,17 +173,13 @@ mod tests {
 
     #[test]
     fn a_matrix_is_told_at_the_end(rt: HostRuntime) {
-        let boundaries = Cell {
-            a: Loc::Boundary,
-            b: Loc::Boundary,
-        };
         let mut all = Progress::new(Query::Relate, Dim::One, Dim::Two);
         let before = all.known();
         assert_eq!(rt; before, None);
-        all.feed(boundaries, Dim::Zero);
+        all.feed(BOUNDARIES, Dim::Zero);
         assert_eq!(rt; all.known(), None);
         let mut m = Matrix::start();
-        m.raise(boundaries, Dim::Zero);
+        m.raise(BOUNDARIES, Dim::Zero);
         let answer = all.finish();
         assert_eq!(rt; answer, Answer::Im(m));
         is_shared(&all);
