@@ -2,7 +2,6 @@ use geosop_io::{MemInputs, MemSink, NamedBytes};
 use geosop_run::{Free, Refusal, Status, UsageFault, run};
 use im_matrix::Which;
 use plane_exact::{NoMemory, PlaceList};
-use point_set::{EdgeRows, Valid, Valids};
 use std::alloc::{AllocError, Global};
 use std::test::*;
 use std::thread::Threads;
@@ -219,15 +218,4 @@ fn usage_faults(rt: HostRuntime) -> Result<(), Fail> {
         )
     );
     Ok(())
-}
-
-fn can_be_shared<T: Send + Sync>() -> bool {
-    true
-}
-
-#[test]
-fn figures_can_be_shared_by_threads(rt: HostRuntime) {
-    assert!(rt; can_be_shared::<Valid>());
-    assert!(rt; can_be_shared::<Valids>());
-    assert!(rt; can_be_shared::<EdgeRows>());
 }
