@@ -7,4 +7,5 @@ pub mod SourceSteps
 pub mod LineOne
 pub mod PointTexts
 pub mod OneAnswer
+pub mod FirstRefusal
 pub mod Exactness

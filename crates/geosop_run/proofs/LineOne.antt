@@ -6,10 +6,8 @@ use Rattle.geosop_run.specs.declared.config.Config.{Config}
 use Rattle.geosop_run.specs.declared.config.UsageFault.{UsageFault}
 use Rattle.geosop_run.specs.declared.config.UsageFault.TheVariants.{Line, Sources}
 use Rattle.geosop_run.specs.Command.{IsCommand, IsLine, IsUsageFault, is_stdin, source_of}
-use Rattle.point_set.specs.declared.figure.Figure.{Figure}
-use Rattle.geosop_run.specs.Sources.{IsAdmitted}
 use Rattle.geosop_run.specs.Sides.{bytes_of, IsAskedOrNot}
-use Rattle.geosop_run.specs.Run.{IsTold, IsAskedRightly, source_of_side}
+use Rattle.geosop_run.specs.Run.{IsSideTold, IsTold, IsSourceAdmitted, IsSideAdmitted, IsAskedRightly, source_of_side}
 
 -- the words have one value for each side
 record SameValues (a b a' b' : List ℕ) : Type 0 where
@@ -27,12 +25,18 @@ same_sources words config other h k =
     let same = same_values words h.a h.b k.a k.b h.command k.command in
     (h.a_is ∙ ap source_of same.same_a ∙ sym k.a_is, h.b_is ∙ ap source_of same.same_b ∙ sym k.b_is)
 
+same_source : (words : List (List ℕ)) (config other : Config) (side : Which) → IsLine words config → IsLine words other → source_of_side config side ≡ source_of_side other side
+same_source words config other A h k = (same_sources words config other h k).0
+same_source words config other B h k = (same_sources words config other h k).1
+
 -- the bytes that are told are those of the one configuration
+pub told_side : (words : List (List ℕ)) (holds : List ℕ → Option (List ℕ)) (config : Config) → IsLine words config → (side : Which) (bytes : List ℕ) → IsSideTold words holds side bytes
+    → bytes_of holds (source_of_side config side) ≡ Some bytes
+told_side words holds config line side bytes t = ap (bytes_of holds) (same_source words config t.config side line t.line) ∙ t.bytes_are
+
 pub told_of : (words : List (List ℕ)) (holds : List ℕ → Option (List ℕ)) (config : Config) → IsLine words config → (a b : List ℕ) → IsTold words holds a b
     → (bytes_of holds config.a ≡ Some a) × (bytes_of holds config.b ≡ Some b)
-told_of words holds config line a b t =
-    let same = same_sources words config t.config line t.line in
-    (ap (bytes_of holds) same.0 ∙ t.a_is, ap (bytes_of holds) same.1 ∙ t.b_is)
+told_of words holds config line a b t = (told_side words holds config line A a t.of_a, told_side words holds config line B b t.of_b)
 
 rightly : (words : List (List ℕ)) (config : Config) (side : Which) (asked : Option (List ℕ)) → IsLine words config → IsAskedOrNot (source_of_side config side) asked → IsAskedRightly words side asked
 rightly words config side asked line h = elim h [ inl none ↦ inl none | inr name ↦ inr (record { config = config; line = line; name_is = name }) ]
@@ -56,9 +60,8 @@ one_usage words Sources Sources h k = refl
 
 -- A was admitted by the bytes of the one configuration
 pub a_first_of : (words : List (List ℕ)) (holds : List ℕ → Option (List ℕ)) (config : Config) (asked : Option (List ℕ)) → IsLine words config
-    → (asked ≡ None) ⊎ ((a : List ℕ) → bytes_of holds config.a ≡ Some a → (figures : List Figure) × IsAdmitted a figures)
-    → (asked ≡ None) ⊎ ((a b : List ℕ) → IsTold words holds a b → (figures : List Figure) × IsAdmitted a figures)
+    → (asked ≡ None) ⊎ IsSourceAdmitted holds config.a → (asked ≡ None) ⊎ IsSideAdmitted words holds A
 a_first_of words holds config asked line h = elim h [
   | inl none ↦ inl none
-  | inr admitted ↦ inr (λ a b t. admitted a (told_of words holds config line a b t).0)
+  | inr admitted ↦ inr (λ a t. admitted a (told_side words holds config line A a t))
 ]

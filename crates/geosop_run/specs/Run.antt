@@ -26,12 +26,24 @@ abbrev pub source_of_side : Config → Which → Source
 source_of_side config A = config.a
 source_of_side config B = config.b
 
--- The words are a command whose two sources have told bytes: a for A and b for B.
-pub record IsTold (words : List (List ℕ)) (holds : List ℕ → Option (List ℕ)) (a b : List ℕ) : Type 0 where
+-- The words are a command, and the source of this side has told bytes.
+pub record IsSideTold (words : List (List ℕ)) (holds : List ℕ → Option (List ℕ)) (side : Which) (bytes : List ℕ) : Type 0 where
   pub config : Config
   pub line : IsLine words config
-  pub a_is : bytes_of holds config.a ≡ Some a
-  pub b_is : bytes_of holds config.b ≡ Some b
+  pub bytes_are : bytes_of holds (source_of_side config side) ≡ Some bytes
+
+-- Both sources have told bytes: a for A and b for B.
+pub record IsTold (words : List (List ℕ)) (holds : List ℕ → Option (List ℕ)) (a b : List ℕ) : Type 0 where
+  pub of_a : IsSideTold words holds A a
+  pub of_b : IsSideTold words holds B b
+
+-- The bytes of a source, where they are told, are admitted whole.
+abbrev pub IsSourceAdmitted : (List ℕ → Option (List ℕ)) → Source → Type 0
+IsSourceAdmitted holds from = (bytes : List ℕ) → bytes_of holds from ≡ Some bytes → (figures : List Figure) × IsAdmitted bytes figures
+
+-- The bytes of a side, where they are told, are admitted whole.
+abbrev pub IsSideAdmitted : List (List ℕ) → (List ℕ → Option (List ℕ)) → Which → Type 0
+IsSideAdmitted words holds side = (bytes : List ℕ) → IsSideTold words holds side bytes → (figures : List Figure) × IsAdmitted bytes figures
 
 -- Both sides are admitted, and their pairs have this text.
 pub record HasText (a b : List ℕ) (text : List ℕ) : Type 0 where
@@ -75,6 +87,10 @@ IsSideFault side told before after (fault.Refused refused) =
 IsSideFault side told before after fault.ReadFault = IsRisen before after
 IsSideFault side told before after fault.NoMemory = ⊤
 
+-- A run ended with this refusal, unless a read fault or want of memory ended it.
+abbrev pub IsRefusedOrStopped : Status → Refusal → Type 0
+IsRefusedOrStopped ended found = (ended ≡ status.Refused found) ⊎ ((ended ≡ status.ReadFault) ⊎ (ended ≡ status.NoMemory))
+
 -- The status of a run that a side's fault ends.
 abbrev pub status_of : SideFault → Status
 status_of (fault.Refused refused) = status.Refused refused
@@ -93,31 +109,37 @@ pub record IsRun (words : List (List ℕ)) (holds : List ℕ → Option (List �
   pub usage : (found : UsageFault) → ended ≡ status.Usage found → IsUsageFault words found
   -- Refused: the first refusal of the input.
   pub refused : (found : Refusal) → ended ≡ status.Refused found → (a b : List ℕ) → IsTold words holds a b → IsFirstRefusal a b found
+  -- It is the refusal of its side whatever the other side is, and B is refused only after A was admitted whole.
+  pub refused_alone : (found : Refusal) → ended ≡ status.Refused found → (bytes : List ℕ) → IsSideTold words holds (side_of found) bytes →
+      IsRefusalOf (side_of found) bytes found
+  pub refused_after : (found : Refusal) → ended ≡ status.Refused found → side_of found ≡ B → IsSideAdmitted words holds A
   -- ReadFault: the inputs counted a fault.
   pub read_fault : ended ≡ status.ReadFault → IsRisen reads_before reads_after
   -- WriteFault: the output counted a fault, and took a front of the text.
   pub write_fault : ended ≡ status.WriteFault → IsRisen writes_before writes_after
   pub front : ended ≡ status.WriteFault → (a b : List ℕ) → IsTold words holds a b → HasWrittenFront a b old new
+  -- Ok and WriteFault come only after both sides were admitted whole.
+  pub admitted : (ended ≡ status.Ok) ⊎ (ended ≡ status.WriteFault) → (side : Which) → IsSideAdmitted words holds side
   -- In every other case the output took nothing.
   pub nothing : ended ≢ status.Ok → ended ≢ status.WriteFault → new ≡ old
   -- A side was asked for by the name that the words give to it, or not at all.
   pub asked_rightly : (side : Which) → IsAskedRightly words side (asked side)
   -- B was asked for only after A was admitted whole.
-  pub a_first : (asked B ≡ None) ⊎ ((a b : List ℕ) → IsTold words holds a b → (figures : List Figure) × IsAdmitted a figures)
+  pub a_first : (asked B ≡ None) ⊎ IsSideAdmitted words holds A
 
 -- The same from the other side: what comes of the words and the bytes. Want of memory is the one free answer.
 pub record IsExact (words : List (List ℕ)) (holds : List ℕ → Option (List ℕ)) (asked : Which → Option (List ℕ))
     (reads_before reads_after : ℕ) (old new : Option (List ℕ)) (writes_before writes_after : ℕ) (ended : Status) : Type 0 where
   -- A fault of the words comes out.
   pub usage_comes : (found : UsageFault) → IsUsageFault words found → (ended ≡ status.Usage found) ⊎ (ended ≡ status.NoMemory)
-  -- The first refusal of the input comes out, unless a read fault was counted.
-  pub refusal_comes : (a b : List ℕ) → IsTold words holds a b → (found : Refusal) → IsFirstRefusal a b found →
-      (ended ≡ status.Refused found) ⊎ ((ended ≡ status.ReadFault) ⊎ (ended ≡ status.NoMemory))
+  -- The first refusal of the input comes out, unless a read fault was counted; that of A whatever B is.
+  pub refusal_comes : (a b : List ℕ) → IsTold words holds a b → (found : Refusal) → IsFirstRefusal a b found → IsRefusedOrStopped ended found
+  pub refusal_of_a_comes : (a : List ℕ) → IsSideTold words holds A a → (found : Refusal) → IsRefusalOf A a found → IsRefusedOrStopped ended found
   -- A command whose sides are both admitted ends Ok, where no fault is counted.
   pub completes : (a b : List ℕ) → IsTold words holds a b → (in_a in_b : List Figure) → IsAdmitted a in_a → IsAdmitted b in_b →
       (¬ IsRisen reads_before reads_after) → (¬ IsRisen writes_before writes_after) → (ended ≡ status.Ok) ⊎ (ended ≡ status.NoMemory)
-  -- Where the words have a fault or the input a refusal, nothing is written, whatever the status.
+  -- Where the words have a fault or a side has a refusal, nothing is written, whatever the status and the other side.
   pub unwritten_for_words : (found : UsageFault) → IsUsageFault words found → new ≡ old
-  pub unwritten_for_input : (a b : List ℕ) → IsTold words holds a b → (found : Refusal) → IsFirstRefusal a b found → new ≡ old
+  pub unwritten_for_input : (side : Which) (bytes : List ℕ) → IsSideTold words holds side bytes → (found : Refusal) → IsRefusalOf side bytes found → new ≡ old
   -- Where A has a refusal, B wasn't asked for.
-  pub b_unasked : (a b : List ℕ) → IsTold words holds a b → (found : Refusal) → IsRefusalOf A a found → asked B ≡ None
+  pub b_unasked : (a : List ℕ) → IsSideTold words holds A a → (found : Refusal) → IsRefusalOf A a found → asked B ≡ None

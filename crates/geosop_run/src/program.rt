@@ -1,13 +1,13 @@
 ghost use Rattle.std.specs.Prelude.{◌≡◌, ◌≢◌, ◌⊎◌, List, ℕ, None, Some, map, string_bytes};
 ghost use Rattle.std.specs.Io.KnownBytes.{append_known};
+ghost use Rattle.im_matrix.specs.declared.Which.{Which};
 ghost use Rattle.im_matrix.specs.declared.Which.TheVariants.{A, B};
-ghost use Rattle.point_set.specs.declared.figure.Figure.{Figure};
 ghost use Rattle.geosop_io.specs.Faults.{IsRisen};
 ghost use Rattle.geosop_io.specs.Known.{AppendsFront};
 ghost use Rattle.geosop_run.specs.Sides.{bytes_of, IsAskedOrNot};
-ghost use Rattle.geosop_run.specs.Sources.{IsFirstRefusal, IsAdmitted};
+ghost use Rattle.geosop_run.specs.Sources.{IsRefusalOf};
 ghost use Rattle.geosop_run.specs.Statuses.{fault_line};
-ghost use Rattle.geosop_run.specs.Run.{HasWritten, HasWrittenFront, IsRun, IsExact};
+ghost use Rattle.geosop_run.specs.Run.{HasWritten, HasWrittenFront, IsSourceAdmitted, IsRun, IsExact, side_of, source_of_side};
 ghost use Rattle.geosop_run.specs.declared.config.UsageFault.{UsageFault};
 ghost use Rattle.geosop_run.specs.declared.status.Refusal.{Refusal};
 
@@ -50,14 +50,16 @@ fn relate_sides<I: Inputs, O: Sink>(
     requires b_new { I.asked inputs.old B ≡ None }
     ensures usage { (fault : UsageFault) → result ≢ Status.Usage fault }
     ensures ok { result ≡ Status.Ok → (a b : List ℕ) → bytes_of (I.holds inputs.old) config.a ≡ Some a → bytes_of (I.holds inputs.old) config.b ≡ Some b → HasWritten a b (O.taken out.old) (O.taken out.new) }
-    ensures refused { (refused : Refusal) → result ≡ Status.Refused refused → (a b : List ℕ) → bytes_of (I.holds inputs.old) config.a ≡ Some a → bytes_of (I.holds inputs.old) config.b ≡ Some b → IsFirstRefusal a b refused }
+    ensures refused { (refused : Refusal) → result ≡ Status.Refused refused → (bytes : List ℕ) → bytes_of (I.holds inputs.old) (source_of_side config (side_of refused)) ≡ Some bytes → IsRefusalOf (side_of refused) bytes refused }
+    ensures refused_after { (refused : Refusal) → result ≡ Status.Refused refused → side_of refused ≡ B → IsSourceAdmitted (I.holds inputs.old) config.a }
     ensures read_fault { result ≡ Status.ReadFault → IsRisen (I.faults inputs.old) (I.faults inputs.new) }
     ensures write_fault { result ≡ Status.WriteFault → IsRisen (O.faults out.old) (O.faults out.new) }
     ensures front { result ≡ Status.WriteFault → (a b : List ℕ) → bytes_of (I.holds inputs.old) config.a ≡ Some a → bytes_of (I.holds inputs.old) config.b ≡ Some b → HasWrittenFront a b (O.taken out.old) (O.taken out.new) }
+    ensures admitted { (result ≡ Status.Ok) ⊎ (result ≡ Status.WriteFault) → (side : Which) → IsSourceAdmitted (I.holds inputs.old) (source_of_side config side) }
     ensures nothing { result ≢ Status.Ok → result ≢ Status.WriteFault → O.taken out.new ≡ O.taken out.old }
     ensures asked_a { IsAskedOrNot config.a (I.asked inputs.new A) }
     ensures asked_b { IsAskedOrNot config.b (I.asked inputs.new B) }
-    ensures a_first { (I.asked inputs.new B ≡ None) ⊎ ((a : List ℕ) → bytes_of (I.holds inputs.old) config.a ≡ Some a → (figures : List Figure) × IsAdmitted a figures) }
+    ensures a_first { (I.asked inputs.new B ≡ None) ⊎ IsSourceAdmitted (I.holds inputs.old) config.a }
 {
     let in_a = match admit_side(alloc, inputs, Which::A, config.a) {
         Ok(figures) => figures,
