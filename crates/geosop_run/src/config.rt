@@ -1,4 +1,5 @@
 use geosop_io::Word;
+use thiserror::Error;
 
 /// Where a side's text comes from.
 #[derive(Debug, Drop)]
@@ -30,10 +31,12 @@ pub enum UsageFault {
 }
 
 /// Why a command line gave no configuration.
-#[derive(Clone, Copy, Debug, PartialEq, Eq)]
+#[derive(Clone, Copy, Debug, PartialEq, Eq, Error)]
 pub enum LineFault {
     /// The first fault of the words.
+    #[error("the command line has a usage fault")]
     Usage(UsageFault),
     /// Want of memory.
+    #[error("there is no memory for the command line")]
     NoMemory,
 }
