@@ -59,49 +59,69 @@ fn usage_name(fault: UsageFault) -> &'static [u8]
     }
 }
 
-fn offer_refusal<E: Sink>(err: &mut E, refusal: Refusal) -> Result<(), Failed>
-    ensures offered { IsOffered result (E.taken err.old) (E.taken err.new) (E.faults err.old) (E.faults err.new) (concat (refusal_pieces refusal)) }
+/// Offers the fault line of a geometry's text.
+fn offer_text_fault<E: Sink>(
+    err: &mut E,
+    side: Which,
+    number: u32,
+    kind: WktKind,
+    place: usize,
+) -> Result<(), Failed>
+    ensures offered { IsOffered result (E.taken err.old) (E.taken err.new) (E.faults err.old) (E.faults err.new) (concat (refusal_pieces (Refusal.Text side number kind place))) }
 {
     let mut number_buffer = Buffer::new();
     let mut place_buffer = Buffer::new();
+    let number = number_buffer.format(number).as_bytes();
+    let place = place_buffer.format(place).as_bytes();
+    let kind = kind_name(kind);
+    offer_pieces(
+        err,
+        &[
+            b"geosop: ",
+            side_name(side),
+            b" ",
+            number,
+            b": ",
+            kind,
+            b" at ",
+            place,
+            b"\n",
+        ],
+    )
+}
+
+/// Offers the fault line of a geometry of a type that isn't built yet.
+fn offer_unbuilt<E: Sink>(err: &mut E, side: Which, number: u32) -> Result<(), Failed>
+    ensures offered { IsOffered result (E.taken err.old) (E.taken err.new) (E.faults err.old) (E.faults err.new) (concat (refusal_pieces (Refusal.Unbuilt side number))) }
+{
+    let mut number_buffer = Buffer::new();
+    let number = number_buffer.format(number).as_bytes();
+    offer_pieces(
+        err,
+        &[
+            b"geosop: ",
+            side_name(side),
+            b" ",
+            number,
+            b": Unbuilt",
+            b"\n",
+        ],
+    )
+}
+
+/// Offers the fault line of a refusal.
+fn offer_refusal<E: Sink>(err: &mut E, refusal: Refusal) -> Result<(), Failed>
+    ensures offered { IsOffered result (E.taken err.old) (E.taken err.new) (E.faults err.old) (E.faults err.new) (concat (refusal_pieces refusal)) }
+{
     match refusal {
         Refusal::TooLong(side) => offer_pieces(
             err,
             &[b"geosop: ", side_name(side), b": TooLong", b"\n"],
         ),
         Refusal::Text(side, number, kind, place) => {
-            let number = number_buffer.format(number).as_bytes();
-            let place = place_buffer.format(place).as_bytes();
-            let kind = kind_name(kind);
-            offer_pieces(
-                err,
-                &[
-                    b"geosop: ",
-                    side_name(side),
-                    b" ",
-                    number,
-                    b": ",
-                    kind,
-                    b" at ",
-                    place,
-                    b"\n",
-                ],
-            )
+            offer_text_fault(err, side, number, kind, place)
         }
-        Refusal::Unbuilt(side, number) => {
-            let number = number_buffer.format(number).as_bytes();
-            offer_pieces(
-                err,
-                &[
-                    b"geosop: ",
-                    side_name(side),
-                    b" ",
-                    number,
-                    b": Unbuilt",
-                    b"\n",
-                ],
-            )
-        }
+        Refusal::Unbuilt(side, number) => offer_unbuilt(err, side, number),
     }
 }
 
