@@ -7,10 +7,11 @@ use std::test::*;
 use std::thread::Threads;
 use wkt_text::WktKind;
 
-// What came of a run.
+// What came of a run, and how many calls its inputs had.
 #[derive(Drop)]
 struct Outcome {
     status: Status,
+    calls: u64,
     out: MemSink,
     err: MemSink,
 }
@@ -60,7 +61,12 @@ fn run_on<R: Threads + Sync + AllocGlobal>(
         &mut err,
         &Free,
     );
-    Ok(Outcome { status, out, err })
+    Ok(Outcome {
+        status,
+        calls: inputs.calls(),
+        out,
+        err,
+    })
 }
 
 fn run_words<R: Threads + Sync + AllocGlobal>(rt: &R, list: &[&str]) -> Result<Outcome, NoMemory> {
@@ -195,6 +201,15 @@ fn one_byte_too_many(rt: HostRuntime) -> Result<(), Fail> {
     assert!(rt; relate_spaces(&rt, 33_554_432)?.is(Status::Ok, "", ""));
     let too_long = Status::Refused(Refusal::TooLong(Which::A));
     assert!(rt; relate_spaces(&rt, 33_554_433)?.is(too_long, "", "geosop: A: TooLong\n"));
+    Ok(())
+}
+
+#[test]
+fn a_refusal_of_a_needs_nothing_of_b(rt: HostRuntime) -> Result<(), Fail> {
+    let syntax = Refusal::Text(Which::A, 1, WktKind::Syntax, 10);
+    let outcome = relate(&rt, "POINT (0 0", "missing.wkt")?;
+    assert!(rt; outcome.is(Status::Refused(syntax), "", "geosop: A 1: Syntax at 10\n"));
+    assert_eq!(rt; outcome.calls, 0);
     Ok(())
 }
 
