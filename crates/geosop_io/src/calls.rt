@@ -17,7 +17,7 @@ impl Calls {
 
     /// No calls so far.
     pub fn new(fails: PlaceList) -> Calls
-        ensures { result ≡ record { fails = fails; made = 0; faults = 0 } }
+        ensures none { result ≡ record { fails = fails; made = 0; faults = 0 } }
     {
         Calls {
             fails,
@@ -48,7 +48,7 @@ impl Calls {
 
 /// Whether a number is in a list.
 fn is_listed(list: &PlaceList, number: u64) -> bool
-    ensures { IsTrue result ↔ Contains list.now number }
+    ensures listed { IsTrue result ↔ Contains list.now number }
 {
     list.as_slice()
         .iter()

@@ -14,7 +14,7 @@ impl<T> PerSide<T> {
 
     /// The value of a side.
     pub fn get(&self, side: Which) -> &T
-        ensures { result.now ≡ on_side self.now side }
+        ensures value { result.now ≡ on_side self.now side }
     {
         match side {
             Which::A => &self.a,
@@ -26,7 +26,7 @@ impl<T> PerSide<T> {
     pub fn set(&mut self, side: Which, value: T)
     where
         T: Drop,
-        ensures { self.new ≡ with_side self.old side value }
+        ensures put { self.new ≡ with_side self.old side value }
     {
         match side {
             Which::A => self.a = value,

@@ -72,14 +72,14 @@ fn are_areas_shaped(f: &Figure) -> bool
 /// Adds to a count, and stops counting just above the limit.
 fn add_up(count: usize, more: usize) -> usize
     requires { count ≤ 1048577 }
-    ensures { result ≡ min 1048577 (count + more) }
+    ensures sum { result ≡ min 1048577 (count + more) }
 {
     count.saturating_add(more).min(MOST_POSITIONS + 1)
 }
 
 fn count_in_ways(count: usize, ways: &Paths) -> usize
     requires { count ≤ 1048577 }
-    ensures { result ≡ min 1048577 (count + sum_by length ways.now) }
+    ensures sum { result ≡ min 1048577 (count + sum_by length ways.now) }
 {
     let mut total = count;
     for way in ways.as_slice() {
@@ -90,13 +90,13 @@ fn count_in_ways(count: usize, ways: &Paths) -> usize
 
 fn count_in_area(count: usize, area: &Area) -> usize
     requires { count ≤ 1048577 }
-    ensures { result ≡ min 1048577 (count + positions_of_area area.now) }
+    ensures sum { result ≡ min 1048577 (count + positions_of_area area.now) }
 {
     count_in_ways(add_up(count, area.shell.len()), &area.holes)
 }
 
 fn count_positions(f: &Figure) -> usize
-    ensures { result ≡ min 1048577 (positions_of f.now) }
+    ensures count { result ≡ min 1048577 (positions_of f.now) }
 {
     let mut total = count_in_ways(add_up(0, f.points.len()), &f.lines);
     for area in f.areas.as_slice() {

@@ -83,7 +83,7 @@ fn add_holes(rows: &mut EdgeRows, v: &Valid, place: usize) -> Result<(), NoMemor
 
 /// The other hand.
 fn opposite(hand: Hand) -> Hand
-    ensures { result ≡ other_hand hand }
+    ensures other { result ≡ other_hand hand }
 {
     match hand {
         Hand::Line => Hand::Line,
@@ -94,7 +94,7 @@ fn opposite(hand: Hand) -> Hand
 
 /// Adds the edges of a line or a ring, each with one owner and one hand.
 fn add_edges(rows: &mut EdgeRows, way: &Path, owner: Owner, hand: Hand) -> Result<(), NoMemory>
-    ensures { OnOk result (rows.new ≡ rows.old ++ map (row_of owner hand) (edges_of_way way.now)) }
+    ensures rows { OnOk result (rows.new ≡ rows.old ++ map (row_of owner hand) (edges_of_way way.now)) }
 {
     match way.as_slice().split_first() {
         None => Ok(()),
@@ -110,7 +110,7 @@ fn add_edges_after(
     owner: Owner,
     hand: Hand,
 ) -> Result<(), NoMemory>
-    ensures { OnOk result (rows.new ≡ rows.old ++ map (row_of owner hand) (edges_after first others.now)) }
+    ensures rows { OnOk result (rows.new ≡ rows.old ++ map (row_of owner hand) (edges_after first others.now)) }
 {
     let mut last = first;
     for p in others {

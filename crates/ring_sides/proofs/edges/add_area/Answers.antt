@@ -25,12 +25,12 @@ overflow_cast-place c = omega (arith, few_areas c.args.v.now c.figure.ensures.sh
 pub add_holes-requires-clause-hands : goal.add_holes-requires-clause-hands
 add_holes-requires-clause-hands c =
     let at = area_read c.figure.result.now c.args.v.now c.args.place c.at.result.now c.figure.ensures.same c.requires.place c.at.ensures.item in
-    more_hands c.args.v.now c.args.rows.now c.add_edges.new.rows (Ring c.args.place 0) c.interior_side-side.result (edges_of c.at.result.now.shell) c.in_ok-add_edges.ensures c.requires.hands
+    more_hands c.args.v.now c.args.rows.now c.add_edges.new.rows (Ring c.args.place 0) c.interior_side-side.result (edges_of c.at.result.now.shell) c.in_ok-add_edges.ensures.rows c.requires.hands
     (shell_has_hand c.args.v.now c.figure.ensures.shaped c.figure.ensures.valid c.args.place c.at.result.now at c.interior_side-side.result c.interior_side-side.ensures.side)
 
 pub returns-clause-edges : goal.returns-clause-edges
 returns-clause-edges c =
     let at = area_read c.figure.result.now c.args.v.now c.args.place c.at.result.now c.figure.ensures.same c.requires.place c.at.ensures.item in
     on_ok_weaker c.add_holes.result (λ holes. of_area_at (λ (area : Area). owned_edges c.add_holes.new.rows ≡ owned_edges c.args.rows.now ++ edges_of_area_rings c.args.place 0 (rings_of area)) c.args.v.now.areas c.args.place c.at.result.now at
-    (shell_then_holes c.args.place c.at.result.now c.args.rows.now c.add_edges.new.rows c.add_holes.new.rows c.interior_side-side.result c.in_ok-add_edges.ensures (holes c.at.result.now at)))
+    (shell_then_holes c.args.place c.at.result.now c.args.rows.now c.add_edges.new.rows c.add_holes.new.rows c.interior_side-side.result c.in_ok-add_edges.ensures.rows (holes c.at.result.now at)))
     c.add_holes.ensures.edges

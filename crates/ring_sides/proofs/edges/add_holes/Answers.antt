@@ -47,10 +47,10 @@ loop-i-preserved c =
     record {
       edges = more_rows (owned_edges c.args.rows.now ++ edges_of_area_rings place 1 holes) (edges_of_area_rings place (i + 1) (drop i holes))
           (edges_of_area_rings place (i + 1 + 1) (drop (i + 1) holes)) c.loop-i.rows c.add_edges.new.rows (Ring place (i + 1)) side (edges_of hole)
-          c.in_ok-add_edges.ensures c.loop-i.invariant.edges
+          c.in_ok-add_edges.ensures.rows c.loop-i.invariant.edges
           (rings_from place holes i (i + 1) hole (subst (λ (xs : List (List Pt)). IsAtPlace xs i hole) (sym c.as_slice-hole-items.ensures.items) own));
-      hands = more_hands c.args.v.now c.loop-i.rows c.add_edges.new.rows (Ring place (i + 1)) side (edges_of hole) c.in_ok-add_edges.ensures c.loop-i.invariant.hands
-          (λ k e is. subst (λ (h : Hand). HasHand c.args.v.now (Ring place (i + 1)) e h) (sym c.opposite-side.ensures)
+      hands = more_hands c.args.v.now c.loop-i.rows c.add_edges.new.rows (Ring place (i + 1)) side (edges_of hole) c.in_ok-add_edges.ensures.rows c.loop-i.invariant.hands
+          (λ k e is. subst (λ (h : Hand). HasHand c.args.v.now (Ring place (i + 1)) e h) (sym c.opposite-side.ensures.other)
           (hole_has_hand c.args.v.now c.figure.ensures.shaped c.figure.ensures.valid place c.at-area.result.now at i hole own c.interior_side.result c.interior_side.ensures.side k e is));
     }
 

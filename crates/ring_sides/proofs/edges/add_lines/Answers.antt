@@ -22,8 +22,8 @@ loop-place-preserved c =
     let next = edges_of_lines (place + 1) (drop (place + 1) lines) in
     record {
       edges = more_rows (owned_edges c.args.rows.now ++ edges_of_lines 0 lines) (edges_of_lines place (drop place lines)) next c.loop-place.rows c.add_edges.new.rows
-          (Line place) hand.Line (edges_of line) c.in_ok-add_edges.ensures c.loop-place.invariant.edges
+          (Line place) hand.Line (edges_of line) c.in_ok-add_edges.ensures.rows c.loop-place.invariant.edges
           (lines_from lines place line (item_at c.as_slice-line-items.result.now lines place line same c.loop-place-test.true c.line-item.is));
-      hands = more_hands c.args.v.now c.loop-place.rows c.add_edges.new.rows (Line place) hand.Line (edges_of line) c.in_ok-add_edges.ensures
+      hands = more_hands c.args.v.now c.loop-place.rows c.add_edges.new.rows (Line place) hand.Line (edges_of line) c.in_ok-add_edges.ensures.rows
           c.loop-place.invariant.hands (λ i e is. refl);
     }
