@@ -62,7 +62,7 @@ pub struct Build {
 
 /// The value of a first or second ordinate.
 fn place_value(token: Token) -> Result<i64, WktKind>
-    ensures { result ≡ place_value token }
+    ensures value { result ≡ place_value token }
 {
     match token {
         Token::Number(Numeral::Whole(value)) => Ok(value),
@@ -75,7 +75,7 @@ fn place_value(token: Token) -> Result<i64, WktKind>
 
 /// The fault of a third or fourth ordinate, which is dropped.
 fn drop_fault(token: Token) -> Option<WktKind>
-    ensures { result ≡ drop_fault token }
+    ensures fault { result ≡ drop_fault token }
 {
     match token {
         Token::Number(Numeral::Long) => Some(WktKind::LongNumber),
@@ -87,7 +87,7 @@ fn drop_fault(token: Token) -> Option<WktKind>
 /// Whether the first position is the last.
 fn ends_meet(way: &Path) -> bool
     requires { 0 < length way.now }
-    ensures { result ≡ ends_meet way.now }
+    ensures closed { result ≡ ends_meet way.now }
 {
     let first = way.at(0);
     let last = way.at(way.len() - 1);
@@ -96,7 +96,7 @@ fn ends_meet(way: &Path) -> bool
 
 /// The fault of a ring at its end.
 fn ring_fault(way: &Path) -> Option<WktKind>
-    ensures { result ≡ ring_fault way.now }
+    ensures fault { result ≡ ring_fault way.now }
 {
     if way.len() < 4 {
         return Some(WktKind::RingShort);
@@ -110,7 +110,7 @@ fn ring_fault(way: &Path) -> Option<WktKind>
 
 /// The number of a group that begins after these areas, or None where it doesn't fit.
 fn next_group(areas: &Areas) -> Option<u32>
-    ensures { SomeIff result (next_group areas.now < 2 ^ 32) (next_group areas.now) }
+    ensures group { SomeIff result (next_group areas.now < 2 ^ 32) (next_group areas.now) }
 {
     match areas.as_slice().last() {
         Some(area) => area.group.checked_add(1),
@@ -121,7 +121,7 @@ fn next_group(areas: &Areas) -> Option<u32>
 impl Build {
     /// Before any token. Takes no memory.
     pub fn new(alloc: Global) -> Build
-        ensures { result ≡ start_build }
+        ensures start { result ≡ start_build }
     {
         Build {
             figure: Figure::empty(alloc),

@@ -144,7 +144,7 @@ impl Control {
 
     /// Whether the geometry has ended.
     pub fn is_done(self) -> bool
-        ensures { result ≡ is_done self.step }
+        ensures done { result ≡ is_done self.step }
     {
         match self.step {
             Step::Done => true,
@@ -164,14 +164,14 @@ impl Control {
     }
 
     fn to(self, step: Step, site: Site) -> Control
-        ensures { result ≡ to self step site }
+        ensures next { result ≡ to self step site }
     {
         Control { step, site, ..self }
     }
 
     /// After a geometry that is in so many collections.
     fn ended(self, depth: u32) -> Control
-        ensures { result ≡ ended self depth }
+        ensures next { result ≡ ended self depth }
     {
         let step = if depth == 0 { Step::Done } else { Step::After };
         Control {
@@ -247,7 +247,7 @@ fn at_body(c: Control, kind: TypeWord, token: Token) -> Option<(Role, Control)>
 
 /// The bracket of an item that is no position.
 fn inner(site: Site) -> Option<(Step, Site)>
-    ensures { result ≡ inner site }
+    ensures bracket { result ≡ inner site }
 {
     match site {
         Site::Points => Some((Step::First, Site::Element)),
@@ -261,7 +261,7 @@ fn inner(site: Site) -> Option<(Step, Site)>
 
 /// The open bracket after an EMPTY item.
 fn after_gap(site: Site) -> Site
-    ensures { result ≡ after_gap site }
+    ensures site { result ≡ after_gap site }
 {
     match site {
         Site::Polygon(many, Rings::Shell) => Site::Polygon(many, Rings::Hollow),
@@ -287,7 +287,7 @@ fn at_item(c: Control, token: Token) -> Option<(Role, Control)>
 
 /// What the second ordinate of a position is for.
 fn second_role(site: Site) -> Role
-    ensures { result ≡ second_role site }
+    ensures role { result ≡ second_role site }
 {
     match site {
         Site::Point | Site::Points | Site::Element => Role::PointY,
@@ -297,7 +297,7 @@ fn second_role(site: Site) -> Role
 
 /// What the end of a bracket is for.
 fn end_role(site: Site) -> Role
-    ensures { result ≡ end_role site }
+    ensures role { result ≡ end_role site }
 {
     match site {
         Site::Line(_) => Role::EndLine,
@@ -325,7 +325,7 @@ fn after_close(c: Control) -> Control
 
 /// What is expected after a comma in a bracket, where one may stand there.
 fn after_comma(site: Site) -> Option<Step>
-    ensures { result ≡ after_comma site }
+    ensures step { result ≡ after_comma site }
 {
     match site {
         Site::Top => Some(Step::Start),
@@ -352,7 +352,7 @@ fn at_after(c: Control, token: Token) -> Option<(Role, Control)>
 
 /// What a third or fourth ordinate is for.
 fn more_role(tag: Tag) -> Role
-    ensures { result ≡ more_role tag }
+    ensures role { result ≡ more_role tag }
 {
     match tag {
         Tag::Plain => Role::Further,
@@ -374,7 +374,7 @@ fn at_more(c: Control, next: Step, token: Token) -> Option<(Role, Control)>
 
 /// What is expected after a third ordinate.
 fn after_two(tag: Tag) -> Step
-    ensures { result ≡ after_two tag }
+    ensures step { result ≡ after_two tag }
 {
     match tag {
         Tag::Z | Tag::M => Step::Full,
@@ -446,7 +446,7 @@ pub fn advance(c: Control, token: Token) -> Option<(Role, Control)>
 /// The fault of a token that isn't allowed.
 #[tactic(auto, unfolding(crate::specs::Machine::refused_kind))]
 pub fn refused_kind(c: Control, token: Token) -> WktKind
-    ensures { result ≡ refused_kind c token }
+    ensures kind { result ≡ refused_kind c token }
 {
     match (c.step, token) {
         (Step::Start, Token::Tag(_) | Token::Empty | Token::Nan | Token::Word) =>

@@ -46,7 +46,7 @@ fn skip_sign(text: &[u8]) -> &[u8]
 }
 
 fn is_minus(text: &[u8]) -> bool
-    ensures { result ≡ is_minus text.now }
+    ensures minus { result ≡ is_minus text.now }
 {
     match text {
         [b'-', ..] => true,
@@ -55,27 +55,27 @@ fn is_minus(text: &[u8]) -> bool
 }
 
 fn all_digits(text: &[u8]) -> bool
-    ensures { result ≡ list_all is_ascii_digit text.now }
+    ensures digits { result ≡ list_all is_ascii_digit text.now }
 {
     text.iter().all(|b| b.is_ascii_digit())
 }
 
 fn all_zeros(text: &[u8]) -> bool
-    ensures { result ≡ list_all is_zero text.now }
+    ensures zeros { result ≡ list_all is_zero text.now }
 {
     text.iter().all(|b| *b == b'0')
 }
 
 /// Whether the mantissa has digits alone, but for one point, and at least one digit.
 fn is_mantissa(whole: &[u8], fraction: &[u8]) -> bool
-    ensures { result ≡ (list_all is_ascii_digit fraction.now && nat_lt 0 (length whole.now + length fraction.now)) }
+    ensures mantissa { result ≡ (list_all is_ascii_digit fraction.now && nat_lt 0 (length whole.now + length fraction.now)) }
 {
     all_digits(fraction) && !(whole.is_empty() && fraction.is_empty())
 }
 
 /// Whether the text may follow a mantissa: nothing, or an exponent.
 fn is_exponent(text: &[u8]) -> bool
-    ensures { result ≡ is_exponent text.now }
+    ensures exponent { result ≡ is_exponent text.now }
 {
     match text {
         [] => true,
@@ -92,7 +92,7 @@ fn read_on(cap: u32, start: u32, text: &[u8]) -> u32
     requires small { cap ≤ CAP }
     requires under { start ≤ cap }
     requires digits { IsTrue (list_all is_ascii_digit text.now) }
-    ensures { result ≡ capped cap (read_on start text.now) }
+    ensures sum { result ≡ capped cap (read_on start text.now) }
 {
     let mut sum = start;
     for b in text {
@@ -137,7 +137,7 @@ fn shift_by(minus: bool, size: u32, places: usize, scale: Scale) -> Shift
 /// The number with so many zeros after it, or the cap where it is greater.
 fn lengthen(start: u32, zeros: usize) -> u32
     requires { start ≤ CAP }
-    ensures { result ≡ capped CAP (start * 10 ^ zeros) }
+    ensures size { result ≡ capped CAP (start * 10 ^ zeros) }
 {
     let mut size = start;
     for _step in 0..zeros {
@@ -154,7 +154,7 @@ fn kept_value(whole: &[u8], fraction: &[u8], shift: Shift) -> Option<u32>
     requires few { length whole.now + length fraction.now ≤ 64 }
     requires whole { IsTrue (list_all is_ascii_digit whole.now) }
     requires fraction { IsTrue (list_all is_ascii_digit fraction.now) }
-    ensures { result ≡ kept_value (whole.now ++ fraction.now) (length whole.now + length fraction.now - shift.dropped) shift.zeros }
+    ensures value { result ≡ kept_value (whole.now ++ fraction.now) (length whole.now + length fraction.now - shift.dropped) shift.zeros }
 {
     let kept = (whole.len() + fraction.len()).saturating_sub(shift.dropped);
     let split = kept.min(whole.len());
@@ -172,7 +172,7 @@ fn kept_value(whole: &[u8], fraction: &[u8], shift: Shift) -> Option<u32>
 
 /// What is said of a whole number of this sign and size, or of one that isn't whole.
 fn judged(minus: bool, size: Option<u32>) -> Numeral
-    ensures { result ≡ judged minus size }
+    ensures judged { result ≡ judged minus size }
 {
     match size {
         None => Numeral::Fraction,
@@ -207,7 +207,7 @@ fn split_point(mantissa: &[u8]) -> (&[u8], &[u8])
 
 /// What is said of a number's text, times ten to the power of the scale.
 pub fn read_number(text: &[u8], scale: Scale) -> Numeral
-    ensures { result ≡ numeral_of scale.digits text.now }
+    ensures numeral { result ≡ numeral_of scale.digits text.now }
 {
     if text.len() > 64 {
         return Numeral::Long;

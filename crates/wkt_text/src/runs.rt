@@ -21,7 +21,7 @@ impl Class {
     /// Whether the class has the byte.
     #[inline(always)]
     pub fn has(self, byte: u8) -> bool
-        ensures { result ≡ in_class self byte }
+        ensures member { result ≡ in_class self byte }
     {
         match self {
             Class::White => byte == b' ' || byte == b'\t' || byte == b'\n' || byte == b'\r',

@@ -43,7 +43,7 @@ pub struct Lexeme {
 
 /// Whether the text is the name and nothing more, in any case.
 fn is_name(text: &[u8], name: &[u8]) -> bool
-    ensures { result ≡ is_name text.now name.now }
+    ensures named { result ≡ is_name text.now name.now }
 {
     match after_name(text, name) {
         Some([]) => true,
@@ -53,7 +53,7 @@ fn is_name(text: &[u8], name: &[u8]) -> bool
 
 /// The token that a word is.
 fn word_token(word: &[u8]) -> Token
-    ensures { result ≡ word_token word.now }
+    ensures token { result ≡ word_token word.now }
 {
     if is_name(word, b"EMPTY") {
         return Token::Empty;
@@ -72,7 +72,7 @@ fn word_token(word: &[u8]) -> Token
 
 /// Whether a number may begin with the byte: a digit, a sign or the point.
 fn is_number_start(byte: u8) -> bool
-    ensures { result ≡ is_number_start byte }
+    ensures start { result ≡ is_number_start byte }
 {
     byte.is_ascii_digit() || byte == b'+' || byte == b'-' || byte == b'.'
 }
@@ -99,7 +99,7 @@ fn number_in(text: &[u8], scale: Scale) -> (Token, usize)
 
 /// The token that a byte is by itself.
 fn mark(byte: u8) -> Token
-    ensures { result ≡ mark byte }
+    ensures token { result ≡ mark byte }
 {
     match byte {
         b'(' => Token::Open,

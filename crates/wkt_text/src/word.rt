@@ -38,7 +38,7 @@ pub enum Tag {
 
 /// What follows the name where the word begins with it, in any case.
 pub fn after_name<'a>(word: &'a [u8], name: &[u8]) -> Option<&'a [u8]>
-    ensures { option_copied result ≡ after_name name.now word.now }
+    ensures rest { option_copied result ≡ after_name name.now word.now }
 {
     let mut i = 0;
     while i < name.len() {
@@ -55,7 +55,7 @@ pub fn after_name<'a>(word: &'a [u8], name: &[u8]) -> Option<&'a [u8]>
 
 /// The tag that these letters are; no letters are no tag.
 pub fn tag_of(letters: &[u8]) -> Option<Tag>
-    ensures { result ≡ tag_of letters.now }
+    ensures tag { result ≡ tag_of letters.now }
 {
     match letters {
         [] => Some(Tag::Plain),
@@ -68,7 +68,7 @@ pub fn tag_of(letters: &[u8]) -> Option<Tag>
 
 /// The type with whose name the word begins, and the letters after the name.
 fn split_type(word: &[u8]) -> Option<(TypeWord, &[u8])>
-    ensures { option_map (λ r. (r.0, r.1.now)) result ≡ split_type word.now }
+    ensures split { option_map (λ r. (r.0, r.1.now)) result ≡ split_type word.now }
 {
     if let Some(rest) = after_name(word, b"POINT") {
         return Some((TypeWord::Point, rest));
@@ -94,7 +94,7 @@ fn split_type(word: &[u8]) -> Option<(TypeWord, &[u8])>
 
 /// The type and the tag that a word names, the tag joined to the type or left out.
 pub fn type_of(word: &[u8]) -> Option<(TypeWord, Tag)>
-    ensures { result ≡ type_of word.now }
+    ensures named { result ≡ type_of word.now }
 {
     let (kind, letters) = split_type(word)?;
     Some((kind, tag_of(letters)?))
@@ -103,7 +103,7 @@ pub fn type_of(word: &[u8]) -> Option<(TypeWord, Tag)>
 /// The letters from the first byte after white space on.
 fn first_word(bytes: &[u8], at: usize) -> &[u8]
     requires { at ≤ length bytes.now }
-    ensures { result.now ≡ take_while (in_class Class.Letter) (from_token bytes.now at) }
+    ensures word { result.now ≡ take_while (in_class Class.Letter) (from_token bytes.now at) }
 {
     let start = run_end(bytes, at, Class::White);
     let end = run_end(bytes, start, Class::Letter);
@@ -113,7 +113,7 @@ fn first_word(bytes: &[u8], at: usize) -> &[u8]
 /// The type that the first token from `at` on names, where it is a type word, with or without a joined tag.
 pub fn type_word(bytes: &[u8], at: usize) -> Option<TypeWord>
     requires { at ≤ length bytes.now }
-    ensures { result ≡ type_at bytes.now at }
+    ensures kind { result ≡ type_at bytes.now at }
 {
     type_of(first_word(bytes, at)).map(|named| named.0)
 }

@@ -19,7 +19,7 @@ seal_points-requires c =
     rw c.in-Ok-Some.field-0-is
     (record {
       shaped = shaped;
-      areas = (reads_points 0 c.args.bytes.now c.args.at c.in-Ok-Some.parsed.figure c.in-Ok-Some.parsed.«end» (type_built c.args.bytes.now c.args.at c.type_word.ensures c.is_unbuilt.ensures.unbuilt c.if-is_unbuilt.false) read).areas;
+      areas = (reads_points 0 c.args.bytes.now c.args.at c.in-Ok-Some.parsed.figure c.in-Ok-Some.parsed.«end» (type_built c.args.bytes.now c.args.at c.type_word.ensures.kind c.is_unbuilt.ensures.unbuilt c.if-is_unbuilt.false) read).areas;
     })
 
 pub returns-in-Ok-Some : goal.returns-in-Ok-Some
@@ -34,8 +34,8 @@ returns-in-Ok-Some c =
     (record {
       next = subst (λ (g : Figure). IsReadTo bytes c.args.at g last) (sym same)
           (record {
-            built = record { built = type_built c.args.bytes.now c.args.at c.type_word.ensures c.is_unbuilt.ensures.unbuilt c.if-is_unbuilt.false; reads = read };
-            points = reads_points 0 bytes c.args.at f last (type_built c.args.bytes.now c.args.at c.type_word.ensures c.is_unbuilt.ensures.unbuilt c.if-is_unbuilt.false) read;
+            built = record { built = type_built c.args.bytes.now c.args.at c.type_word.ensures.kind c.is_unbuilt.ensures.unbuilt c.if-is_unbuilt.false; reads = read };
+            points = reads_points 0 bytes c.args.at f last (type_built c.args.bytes.now c.args.at c.type_word.ensures.kind c.is_unbuilt.ensures.unbuilt c.if-is_unbuilt.false) read;
             onward = reads_onward 0 bytes c.args.at f last read;
             within = within;
           });

@@ -8,16 +8,20 @@ returns-then-not-all_zeros-2 c =
     let k = c.saturating_sub-kept.result in
     let parts = cut c.args.whole.now c.args.fraction.now _ _ _ _ k c.min-split.result (omega arith) c.min-split.ensures
     c.split_at.ensures.front c.split_at.ensures.back c.split_at-2.ensures.front c.split_at-2.ensures.back in
-    sym (kept_value_not_second c.args.shift.zeros parts
-    (sym c.all_zeros.ensures ∙ c.if-not-all_zeros.false) (sym c.all_zeros-2.ensures ∙ c.if-not-all_zeros-2.true))
-    ∙ ap (λ n. kept_value (c.args.whole.now ++ c.args.fraction.now) n c.args.shift.zeros) c.saturating_sub-kept.ensures
+    record {
+      value = sym (kept_value_not_second c.args.shift.zeros parts
+          (sym c.all_zeros.ensures.zeros ∙ c.if-not-all_zeros.false) (sym c.all_zeros-2.ensures.zeros ∙ c.if-not-all_zeros-2.true))
+          ∙ ap (λ n. kept_value (c.args.whole.now ++ c.args.fraction.now) n c.args.shift.zeros) c.saturating_sub-kept.ensures;
+    }
 
 pub returns : goal.returns
 returns c =
     let k = c.saturating_sub-kept.result in
     let parts = cut c.args.whole.now c.args.fraction.now _ _ _ _ k c.min-split.result (omega arith) c.min-split.ensures
     c.split_at.ensures.front c.split_at.ensures.back c.split_at-2.ensures.front c.split_at-2.ensures.back in
-    sym (kept_value_some c.args.shift.zeros parts c.read_on.result c.read_on-size.result c.lengthen.result
-    (sym c.all_zeros.ensures ∙ c.if-not-all_zeros.false) (sym c.all_zeros-2.ensures ∙ c.if-not-all_zeros-2.false)
-    c.read_on.ensures c.read_on-size.ensures c.lengthen.ensures)
-    ∙ ap (λ n. kept_value (c.args.whole.now ++ c.args.fraction.now) n c.args.shift.zeros) c.saturating_sub-kept.ensures
+    record {
+      value = sym (kept_value_some c.args.shift.zeros parts c.read_on.result c.read_on-size.result c.lengthen.result
+          (sym c.all_zeros.ensures.zeros ∙ c.if-not-all_zeros.false) (sym c.all_zeros-2.ensures.zeros ∙ c.if-not-all_zeros-2.false)
+          c.read_on.ensures.sum c.read_on-size.ensures.sum c.lengthen.ensures.size)
+          ∙ ap (λ n. kept_value (c.args.whole.now ++ c.args.fraction.now) n c.args.shift.zeros) c.saturating_sub-kept.ensures;
+    }

@@ -9,8 +9,8 @@ returns-then-size-eq0 c =
     let n = c.loop-step.size in
     let k = c.args.zeros - c.loop-step._step in
     elim c.then-size-eq0.branch [
-      | then-size-eq0-via-then-size-eq0 w ↦ settled_zero 1048576 n k w.if-size-eq0.true (omega arith) ∙ c.loop-step.invariant.same
-      | then-size-eq0-via-else-size-eq0+then-size-eq-CAP w ↦ settled_cap 1048576 n k w.if-size-eq-CAP.true ∙ c.loop-step.invariant.same
+      | then-size-eq0-via-then-size-eq0 w ↦ record { size = settled_zero 1048576 n k w.if-size-eq0.true (omega arith) ∙ c.loop-step.invariant.same }
+      | then-size-eq0-via-else-size-eq0+then-size-eq-CAP w ↦ record { size = settled_cap 1048576 n k w.if-size-eq-CAP.true ∙ c.loop-step.invariant.same }
     ]
 
 pub loop-step-preserved : goal.loop-step-preserved

@@ -9,7 +9,7 @@ returns-in_err-control-clause-fault c =
     let p = err_from_is_err_and c.from_residual.result c.from_residual.ensures.1 in
     let h = rw c.next_token-lexeme.ensures.token at c.in_err-control.ensures.fault in
     rw (p.1, p.2) (so_far_stop c.args.scale.digits c.args.bytes.now c.args.at c.tokens.place c.tokens.control c.tokens.build _ c.requires.some
-    (not_done_from c.tokens.control.step (sym c.is_done.ensures ∙ c.tokens-test.true)) c.tokens.invariant.so_far h)
+    (not_done_from c.tokens.control.step (sym c.is_done.ensures.done ∙ c.tokens-test.true)) c.tokens.invariant.so_far h)
 
 pub tokens-smaller : goal.tokens-smaller
 tokens-smaller c =
@@ -31,4 +31,4 @@ tokens-preserved c =
 pub returns-clause-read : goal.returns-clause-read
 returns-clause-read c =
     so_far_reads c.args.scale.digits c.args.bytes.now c.args.at c.tokens.place c.tokens.control c.tokens.build c.tokens.invariant.so_far
-    (done_from c.tokens.control.step (sym c.is_done.ensures ∙ c.tokens-test.false))
+    (done_from c.tokens.control.step (sym c.is_done.ensures.done ∙ c.tokens-test.false))

@@ -6,4 +6,4 @@ use Rattle.wkt_text.proofs.token.word_in.Goals as goal
 pub returns-clause-word : goal.returns-clause-word
 returns-clause-word c =
     let e : c.run_end-end.result ≡ prefix_len is_ascii_alphabetic c.args.text.now = omega arith in
-    rw (c.word_token.ensures, c.split_at.ensures.front, e) refl
+    rw (c.word_token.ensures.token, c.split_at.ensures.front, e) refl

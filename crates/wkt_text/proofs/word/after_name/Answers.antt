@@ -9,5 +9,7 @@ short_word name word i within ended = rw (drop_more name i 0 within, drop_all i 
 
 pub returns-then-i-word : goal.returns-then-i-word
 returns-then-i-word c =
-    sym (short_word c.args.name.now c.args.word.now c.loop-i.i c.loop-i-test.true c.if-i-word.true)
-    ∙ c.loop-i.invariant.same
+    record {
+      rest = sym (short_word c.args.name.now c.args.word.now c.loop-i.i c.loop-i-test.true c.if-i-word.true)
+          ∙ c.loop-i.invariant.same;
+    }
