@@ -50,7 +50,7 @@ pub enum Dim {
 impl Dim {
     /// The greater of the two dimensions.
     fn greater(self, other: Dim) -> Dim
-        ensures { result ≡ greater self other }
+        ensures greater { result ≡ greater self other }
     {
         match (self, other) {
             (Dim::Two, _) | (_, Dim::Two) => Dim::Two,
@@ -62,14 +62,14 @@ impl Dim {
 
     /// Whether there is a point.
     fn is_present(self) -> bool
-        ensures { result ≡ is_present self }
+        ensures present { result ≡ is_present self }
     {
         !matches!(self, Dim::Empty)
     }
 
     /// The character of the dimension in a matrix's text.
     fn character(self) -> u8
-        ensures { result ≡ character_of self }
+        ensures character { result ≡ character_of self }
     {
         match self {
             Dim::Empty => b'F',
@@ -156,7 +156,7 @@ impl Row {
     };
 
     fn get(&self, b: Loc) -> Dim
-        ensures { result ≡ in_row self.now b }
+        ensures dimension { result ≡ in_row self.now b }
     {
         match b {
             Loc::Interior => self.interior,
@@ -181,7 +181,7 @@ impl Matrix {
     /// The matrix before any point is known: every cell is Empty, but the plane's remainder, outside
     /// both figures, is always an area.
     pub fn start() -> Matrix
-        ensures { (c : Cell) → dimension_at result c ≡ start_dimension c }
+        ensures start { (c : Cell) → dimension_at result c ≡ start_dimension c }
     {
         Matrix {
             interior: Row::EMPTY,
@@ -195,7 +195,7 @@ impl Matrix {
 
     /// The dimension in a cell.
     pub fn get(&self, c: Cell) -> Dim
-        ensures { result ≡ dimension_at self.now c }
+        ensures dimension { result ≡ dimension_at self.now c }
     {
         match c.a {
             Loc::Interior => self.interior.get(c.b),
@@ -218,7 +218,7 @@ impl Matrix {
 
     /// The nine characters `F`, `0`, `1`, `2` in the order II IB IE BI BB BE EI EB EE.
     pub fn text(&self) -> [u8; 9]
-        ensures { result ≡ matrix_text self.now }
+        ensures text { result ≡ matrix_text self.now }
     {
         [
             self.interior.interior.character(),

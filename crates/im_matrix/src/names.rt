@@ -38,14 +38,14 @@ pub enum Name {
 impl Matrix {
     /// Whether A's part and B's part have a point in common.
     pub fn has(&self, a: Loc, b: Loc) -> bool
-        ensures { result ≡ has self.now a b }
+        ensures common { result ≡ has self.now a b }
     {
         self.get(Cell { a, b }).is_present()
     }
 
     /// Whether the figures have a point in common.
     pub fn figures_meet(&self) -> bool
-        ensures { result ≡ figures_meet self.now }
+        ensures meets { result ≡ figures_meet self.now }
     {
         self.has(Loc::Interior, Loc::Interior)
             || self.has(Loc::Interior, Loc::Boundary)
@@ -55,14 +55,14 @@ impl Matrix {
 
     /// Whether A has a point that isn't in B.
     pub fn a_leaves_b(&self) -> bool
-        ensures { result ≡ a_leaves_b self.now }
+        ensures leaves { result ≡ a_leaves_b self.now }
     {
         self.has(Loc::Interior, Loc::Exterior) || self.has(Loc::Boundary, Loc::Exterior)
     }
 
     /// Whether B has a point that isn't in A.
     pub fn b_leaves_a(&self) -> bool
-        ensures { result ≡ b_leaves_a self.now }
+        ensures leaves { result ≡ b_leaves_a self.now }
     {
         self.has(Loc::Exterior, Loc::Interior) || self.has(Loc::Exterior, Loc::Boundary)
     }
@@ -70,7 +70,7 @@ impl Matrix {
 
 /// Whether the figures touch, by their dimensions.
 fn touches(dim_a: Dim, dim_b: Dim, m: &Matrix) -> bool
-    ensures { result ≡ name_value Name.Touches dim_a dim_b m.now }
+    ensures value { result ≡ name_value Name.Touches dim_a dim_b m.now }
 {
     match (dim_a, dim_b) {
         (Dim::Zero, Dim::Zero) => false,
@@ -80,7 +80,7 @@ fn touches(dim_a: Dim, dim_b: Dim, m: &Matrix) -> bool
 
 /// Whether the figures cross, by their dimensions.
 fn crosses(dim_a: Dim, dim_b: Dim, m: &Matrix) -> bool
-    ensures { result ≡ name_value Name.Crosses dim_a dim_b m.now }
+    ensures value { result ≡ name_value Name.Crosses dim_a dim_b m.now }
 {
     match (dim_a, dim_b) {
         (Dim::One, Dim::One) => matches!(m.interior.interior, Dim::Zero),
@@ -96,7 +96,7 @@ fn crosses(dim_a: Dim, dim_b: Dim, m: &Matrix) -> bool
 
 /// Whether the figures overlap, by their dimensions.
 fn overlaps(dim_a: Dim, dim_b: Dim, m: &Matrix) -> bool
-    ensures { result ≡ name_value Name.Overlaps dim_a dim_b m.now }
+    ensures value { result ≡ name_value Name.Overlaps dim_a dim_b m.now }
 {
     let interiors_meet = match (dim_a, dim_b) {
         (Dim::Zero, Dim::Zero) | (Dim::Two, Dim::Two) => m.has(Loc::Interior, Loc::Interior),
@@ -108,7 +108,7 @@ fn overlaps(dim_a: Dim, dim_b: Dim, m: &Matrix) -> bool
 
 /// Whether the name is true of two figures with these dimensions and this matrix.
 pub fn named(name: Name, dim_a: Dim, dim_b: Dim, m: &Matrix) -> bool
-    ensures { result ≡ name_value name dim_a dim_b m.now }
+    ensures value { result ≡ name_value name dim_a dim_b m.now }
 {
     let interiors_meet = m.has(Loc::Interior, Loc::Interior);
     match name {

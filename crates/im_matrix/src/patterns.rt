@@ -26,7 +26,7 @@ pub enum Mark {
 impl Mark {
     /// The mark of a character, if it is one of the six.
     fn of(character: u8) -> Option<Mark>
-        ensures { MatchOption result (is_right (Some character) ≡ false) (λ k. mark_character k ≡ character) }
+        ensures mark { MatchOption result (is_right (Some character) ≡ false) (λ k. mark_character k ≡ character) }
     {
         match character {
             b'T' => Some(Mark::Present),
@@ -41,7 +41,7 @@ impl Mark {
 
     /// The mark's character.
     fn character(self) -> u8
-        ensures { result ≡ mark_character self }
+        ensures character { result ≡ mark_character self }
     {
         match self {
             Mark::Present => b'T',
@@ -55,7 +55,7 @@ impl Mark {
 
     /// Whether the dimension is one that the mark asks for.
     fn accepts(self, d: Dim) -> bool
-        ensures { result ≡ accepts (mark_character self) d }
+        ensures accepts { result ≡ accepts (mark_character self) d }
     {
         match self {
             Mark::Present => d.is_present(),
@@ -121,7 +121,7 @@ impl MarkRow {
     }
 
     fn at(&self, b: Loc) -> Mark
-        ensures { result ≡ in_mark_row self.now b }
+        ensures mark { result ≡ in_mark_row self.now b }
     {
         match b {
             Loc::Interior => self.interior,
@@ -132,7 +132,7 @@ impl MarkRow {
 
     /// Whether each mark accepts the dimension in its cell.
     fn matches(&self, m: &Matrix, a: Loc) -> bool
-        ensures { result ≡ row_accepts self.now m.now a }
+        ensures matches { result ≡ row_accepts self.now m.now a }
     {
         self.interior.accepts(m.get(Cell {
             a,
@@ -177,7 +177,7 @@ impl Pattern {
 
     /// What the pattern asks of a cell.
     pub fn at(&self, c: Cell) -> Mark
-        ensures { result ≡ mark_at self.now c }
+        ensures mark { result ≡ mark_at self.now c }
     {
         match c.a {
             Loc::Interior => self.interior.at(c.b),
@@ -188,7 +188,7 @@ impl Pattern {
 
     /// The nine characters of the pattern.
     pub fn text(&self) -> [u8; 9]
-        ensures { result ≡ pattern_text self.now }
+        ensures text { result ≡ pattern_text self.now }
     {
         [
             self.interior.interior.character(),
@@ -206,7 +206,7 @@ impl Pattern {
     /// Whether the matrix matches: `T` asks for a cell that isn't Empty, `F` for an empty one, `*` for
     /// nothing, and a digit for that dimension.
     pub fn matches(&self, m: &Matrix) -> bool
-        ensures { result ≡ text_matches (pattern_text self.now) m.now }
+        ensures matches { result ≡ text_matches (pattern_text self.now) m.now }
     {
         self.interior.matches(m, Loc::Interior)
             && self.boundary.matches(m, Loc::Boundary)

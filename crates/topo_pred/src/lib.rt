@@ -80,7 +80,7 @@ impl Progress {
 
     /// The answer, where nothing more is to come: the query's value on the present matrix.
     pub fn finish(&self) -> Answer
-        ensures { result ≡ value_at self.now (matrix_of self.now) }
+        ensures value { result ≡ value_at self.now (matrix_of self.now) }
     {
         match self.query {
             Query::Relate => Answer::Im(self.matrix),
@@ -108,7 +108,7 @@ fn query_known(query: &Query, dim_a: Dim, dim_b: Dim, m: &Matrix) -> Option<bool
 /// A law, with nothing to run: once a value is known, it is that of the final matrix, whatever is
 /// still fed. So the feeds that are left need not be computed.
 pub fn known_is_final()
-    ensures { KnownIsFinal }
+    ensures known { KnownIsFinal }
 {}
 
 #[cfg(test)]

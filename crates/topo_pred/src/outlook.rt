@@ -20,7 +20,7 @@ const INTERIORS: Cell = Cell {
 
 /// Whether no dimension that the cell may still come to is one that the mark asks for.
 fn fails_for_good(mark: Mark, d: Dim) -> bool
-    ensures { result ≡ fails_for_good mark d }
+    ensures fails { result ≡ fails_for_good mark d }
 {
     match mark {
         Mark::Absent => !matches!(d, Dim::Empty),
@@ -32,7 +32,7 @@ fn fails_for_good(mark: Mark, d: Dim) -> bool
 
 /// Whether each dimension that the cell may still come to is one that the mark asks for.
 fn holds_for_good(mark: Mark, d: Dim) -> bool
-    ensures { result ≡ holds_for_good mark d }
+    ensures holds { result ≡ holds_for_good mark d }
 {
     match mark {
         Mark::Any => true,
@@ -44,7 +44,7 @@ fn holds_for_good(mark: Mark, d: Dim) -> bool
 
 /// Whether some character of the pattern fails for good.
 fn some_fails(pattern: &Pattern, m: &Matrix) -> bool
-    ensures { result ≡ list_any (λ c. fails_for_good (mark_at pattern.now c) (dimension_at m.now c)) all_cells }
+    ensures fails { result ≡ list_any (λ c. fails_for_good (mark_at pattern.now c) (dimension_at m.now c)) all_cells }
 {
     Cell::ALL
         .iter()
@@ -53,7 +53,7 @@ fn some_fails(pattern: &Pattern, m: &Matrix) -> bool
 
 /// Whether each character of the pattern holds for good.
 fn all_hold(pattern: &Pattern, m: &Matrix) -> bool
-    ensures { result ≡ list_all (λ c. holds_for_good (mark_at pattern.now c) (dimension_at m.now c)) all_cells }
+    ensures holds { result ≡ list_all (λ c. holds_for_good (mark_at pattern.now c) (dimension_at m.now c)) all_cells }
 {
     Cell::ALL
         .iter()
@@ -62,7 +62,7 @@ fn all_hold(pattern: &Pattern, m: &Matrix) -> bool
 
 /// What is known of a pattern.
 pub fn pattern_known(pattern: &Pattern, m: &Matrix) -> Option<bool>
-    ensures { IsKnown (text_matches (pattern_text pattern.now)) m.now result }
+    ensures known { IsKnown (text_matches (pattern_text pattern.now)) m.now result }
 {
     if some_fails(pattern, m) {
         Some(false)
@@ -75,42 +75,42 @@ pub fn pattern_known(pattern: &Pattern, m: &Matrix) -> Option<bool>
 
 /// Whether the first dimension is below the second.
 fn is_below(a: Dim, b: Dim) -> bool
-    ensures { result ≡ nat_lt (rank a) (rank b) }
+    ensures below { result ≡ nat_lt (rank a) (rank b) }
 {
     a < b
 }
 
 /// Whether the interiors meet in more than points.
 fn meet_in_a_line(m: &Matrix) -> bool
-    ensures { result ≡ nat_lt 1 (rank (dimension_at m.now (cell Interior Interior))) }
+    ensures line { result ≡ nat_lt 1 (rank (dimension_at m.now (cell Interior Interior))) }
 {
     matches!(m.get(INTERIORS), Dim::One | Dim::Two)
 }
 
 /// Whether the interiors meet in an area.
 fn meet_in_an_area(m: &Matrix) -> bool
-    ensures { result ≡ nat_lt 2 (rank (dimension_at m.now (cell Interior Interior))) }
+    ensures area { result ≡ nat_lt 2 (rank (dimension_at m.now (cell Interior Interior))) }
 {
     matches!(m.get(INTERIORS), Dim::Two)
 }
 
 /// Whether a part of A's interior is in B's, and a part of it outside B.
 fn some_in_some_out(m: &Matrix) -> bool
-    ensures { result ≡ (has m.now Interior Interior && has m.now Interior Exterior) }
+    ensures parts { result ≡ (has m.now Interior Interior && has m.now Interior Exterior) }
 {
     m.has(Loc::Interior, Loc::Interior) && m.has(Loc::Interior, Loc::Exterior)
 }
 
 /// Whether a part of B's interior is in A's, and a part of it outside A.
 fn some_in_some_over(m: &Matrix) -> bool
-    ensures { result ≡ (has m.now Interior Interior && has m.now Exterior Interior) }
+    ensures parts { result ≡ (has m.now Interior Interior && has m.now Exterior Interior) }
 {
     m.has(Loc::Interior, Loc::Interior) && m.has(Loc::Exterior, Loc::Interior)
 }
 
 /// Whether the interiors meet, and each has a part outside the other figure.
 fn each_in_part(m: &Matrix) -> bool
-    ensures { result ≡ (has m.now Interior Interior && has m.now Interior Exterior && has m.now Exterior Interior) }
+    ensures parts { result ≡ (has m.now Interior Interior && has m.now Interior Exterior && has m.now Exterior Interior) }
 {
     m.has(Loc::Interior, Loc::Interior)
         && m.has(Loc::Interior, Loc::Exterior)
@@ -119,21 +119,21 @@ fn each_in_part(m: &Matrix) -> bool
 
 /// Whether one of the figures has a point that isn't in the other.
 fn differ(m: &Matrix) -> bool
-    ensures { result ≡ (a_leaves_b m.now || b_leaves_a m.now) }
+    ensures differs { result ≡ (a_leaves_b m.now || b_leaves_a m.now) }
 {
     m.a_leaves_b() || m.b_leaves_a()
 }
 
 /// Whether B has a point that isn't in A's interior.
 fn b_leaves_interior(m: &Matrix) -> bool
-    ensures { result ≡ (has m.now Boundary Interior || has m.now Boundary Boundary || b_leaves_a m.now) }
+    ensures leaves { result ≡ (has m.now Boundary Interior || has m.now Boundary Boundary || b_leaves_a m.now) }
 {
     m.has(Loc::Boundary, Loc::Interior) || m.has(Loc::Boundary, Loc::Boundary) || m.b_leaves_a()
 }
 
 /// What is known of Touches.
 fn touches_known(dim_a: Dim, dim_b: Dim, m: &Matrix) -> Option<bool>
-    ensures { IsKnown (name_value Name.Touches dim_a dim_b) m.now result }
+    ensures known { IsKnown (name_value Name.Touches dim_a dim_b) m.now result }
 {
     match (dim_a, dim_b) {
         (Dim::Zero, Dim::Zero) => Some(false),
@@ -143,7 +143,7 @@ fn touches_known(dim_a: Dim, dim_b: Dim, m: &Matrix) -> Option<bool>
 
 /// What is known of Crosses.
 fn crosses_known(dim_a: Dim, dim_b: Dim, m: &Matrix) -> Option<bool>
-    ensures { IsKnown (name_value Name.Crosses dim_a dim_b) m.now result }
+    ensures known { IsKnown (name_value Name.Crosses dim_a dim_b) m.now result }
 {
     match (dim_a, dim_b) {
         (Dim::One, Dim::One) => meet_in_a_line(m).then_some(false),
@@ -155,7 +155,7 @@ fn crosses_known(dim_a: Dim, dim_b: Dim, m: &Matrix) -> Option<bool>
 
 /// What is known of Overlaps.
 fn overlaps_known(dim_a: Dim, dim_b: Dim, m: &Matrix) -> Option<bool>
-    ensures { IsKnown (name_value Name.Overlaps dim_a dim_b) m.now result }
+    ensures known { IsKnown (name_value Name.Overlaps dim_a dim_b) m.now result }
 {
     match (dim_a, dim_b) {
         (Dim::Zero, Dim::Zero) => each_in_part(m).then_some(true),
@@ -170,7 +170,7 @@ fn overlaps_known(dim_a: Dim, dim_b: Dim, m: &Matrix) -> Option<bool>
 /// A name that asks for an empty cell is never true before the end, since a point may still come
 /// there; one that asks for points alone is never false.
 pub fn name_known(name: Name, dim_a: Dim, dim_b: Dim, m: &Matrix) -> Option<bool>
-    ensures { IsKnown (name_value name dim_a dim_b) m.now result }
+    ensures known { IsKnown (name_value name dim_a dim_b) m.now result }
 {
     match name {
         Name::Intersects => m.figures_meet().then_some(true),

@@ -3,13 +3,14 @@ use Rattle.topo_pred.proofs.outlook.touches_known.Goals.{in_default-via-in-Zero+
 use Rattle.topo_pred.proofs.outlook.touches_known.Goals as goal
 
 pub returns-in-Zero-Zero : goal.returns-in-Zero-Zero
-returns-in-Zero-Zero c = rw (c.in-Zero-Zero.is-0, c.in-Zero-Zero.is-1) (touches-points c.args.m.now)
+returns-in-Zero-Zero c = record { known = rw (c.in-Zero-Zero.is-0, c.in-Zero-Zero.is-1) (touches-points c.args.m.now) }
 
 pub returns-in_default : goal.returns-in_default
-returns-in_default c =
-    rw (c.then_some.ensures, c.has.ensures)
-    (touches-known c.args.dim_a c.args.dim_b c.args.m.now
-    (elim c.in_default.branch [
-      | in_default-via-in-Zero+in_default w ↦ (λ p q. w.in_default.not-Zero-1 q)
-      | in_default-via-in_default w ↦ (λ p q. w.in_default.not-Zero-0 p)
-    ]))
+returns-in_default c = record {
+  known = rw (c.then_some.ensures, c.has.ensures.common)
+      (touches-known c.args.dim_a c.args.dim_b c.args.m.now
+      (elim c.in_default.branch [
+        | in_default-via-in-Zero+in_default w ↦ (λ p q. w.in_default.not-Zero-1 q)
+        | in_default-via-in_default w ↦ (λ p q. w.in_default.not-Zero-0 p)
+      ]));
+}

@@ -16,10 +16,10 @@ returns-then-matches-2 c =
     let e = row_accepts p.exterior m Exterior in
     let both : i && b ≡ c.if-matches.value =
     elim c.if-matches.branch [
-      | then-matches w ↦ and-true i b (sym c.matches.ensures ∙ w.if-matches.true) ∙ sym w.matches-then-matches.ensures ∙ sym w.value-is
-      | else-matches w ↦ and-false i b (sym c.matches.ensures ∙ w.if-matches.false) ∙ sym w.if-matches.false ∙ sym w.value-is
+      | then-matches w ↦ and-true i b (sym c.matches.ensures.matches ∙ w.if-matches.true) ∙ sym w.matches-then-matches.ensures.matches ∙ sym w.value-is
+      | else-matches w ↦ and-false i b (sym c.matches.ensures.matches ∙ w.if-matches.false) ∙ sym w.if-matches.false ∙ sym w.value-is
     ] in
-    c.matches-then-matches-2.ensures ∙ sym (and-true (i && b) e (both ∙ c.if-matches-2.true)) ∙ rows_in_order p m
+    record { matches = c.matches-then-matches-2.ensures.matches ∙ sym (and-true (i && b) e (both ∙ c.if-matches-2.true)) ∙ rows_in_order p m }
 
 pub returns-else-matches-2 : goal.returns-else-matches-2
 returns-else-matches-2 c =
@@ -30,7 +30,7 @@ returns-else-matches-2 c =
     let e = row_accepts p.exterior m Exterior in
     let both : i && b ≡ c.if-matches.value =
     elim c.if-matches.branch [
-      | then-matches w ↦ and-true i b (sym c.matches.ensures ∙ w.if-matches.true) ∙ sym w.matches-then-matches.ensures ∙ sym w.value-is
-      | else-matches w ↦ and-false i b (sym c.matches.ensures ∙ w.if-matches.false) ∙ sym w.if-matches.false ∙ sym w.value-is
+      | then-matches w ↦ and-true i b (sym c.matches.ensures.matches ∙ w.if-matches.true) ∙ sym w.matches-then-matches.ensures.matches ∙ sym w.value-is
+      | else-matches w ↦ and-false i b (sym c.matches.ensures.matches ∙ w.if-matches.false) ∙ sym w.if-matches.false ∙ sym w.value-is
     ] in
-    c.if-matches-2.false ∙ sym (and-false (i && b) e (both ∙ c.if-matches-2.false)) ∙ rows_in_order p m
+    record { matches = c.if-matches-2.false ∙ sym (and-false (i && b) e (both ∙ c.if-matches-2.false)) ∙ rows_in_order p m }
