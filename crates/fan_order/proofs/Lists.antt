@@ -9,7 +9,7 @@ use Rattle.std.proofs.lemmas.List.{take_more}
 use Rattle.std.proofs.lemmas.List.Kept.{AllPairs-cons, Any-dedup, Contains-from_dedup, IsStrictlySortedBy-dedup}
 use Rattle.std.proofs.lemmas.List.Sorted.{Contains-permutation, IsPermutation-sym}
 use Rattle.std.proofs.lemmas.List.Elements.{All-from_recursion, All-cons, All-nil, All-weaker, All-contains, All-contains_itself}
-use Rattle.plane_exact.proofs.AngleOrder.{compare_angles_total, compare_angles-same, same_compare_angles}
+use Rattle.plane_exact.proofs.AngleOrder.{joined_ways, compare_angles_total, same_compare_angles}
 use Rattle.plane_exact.specs.Orders.{compare_angles, IsSameDirection}
 use Rattle.plane_exact.specs.declared.dir.Dir.{Dir}
 use Rattle.fan_order.specs.declared.section.Section.{Section}
@@ -67,9 +67,6 @@ zip_right R xs [] h = All-nil (λ y. Any (λ x. R x y) xs)
 zip_right R [] (y ∷ ys) h = absurd h
 zip_right R (x ∷ xs) (y ∷ ys) h = All-cons (λ z. Any (λ w. R w z) (x ∷ xs)) y ys (Any-here (λ w. R w y) x xs h.0) (All-weaker (λ z. Any (λ w. R w z) xs) (λ z. Any (λ w. R w z) (x ∷ xs)) (λ z k. Any-there (λ w. R w z) x xs k) ys (zip_right R xs ys h.1))
 
-SameDirection-trans : {d e f : Dir} → IsSameDirection d e → IsSameDirection e f → IsSameDirection d f
-SameDirection-trans {d} {e} {f} h k = same_compare_angles d f (compare_angles_total.congr d e f (compare_angles-same d e h) ∙ compare_angles-same e f k)
-
 -- the rays of all sections, of which each direction is kept once
 pub AreRaysOf-kept : (sections : List Section) (old rays : List Dir) → AllZip (λ s ray. IsRayOf s.dir ray) sections old → AllPairs (λ d e. compare_angles d e ≡ Less) rays → All (Contains old) rays → All (λ d. Any (IsSameDirection d) rays) old → AreRaysOf sections rays
 AreRaysOf-kept sections old rays zip up only whole = record {
@@ -85,7 +82,7 @@ AreRaysOf-kept sections old rays zip up only whole = record {
     along s h =
         let a = All-contains (λ d. Any (IsSameDirection d) rays) old h.1 whole (h.0, h.2, h.3) in
         let low : IsLowest a.1 = (of_section a.1 (All-contains (Contains old) rays a.1 only (a.0, a.2, a.3))).4.lowest in
-        (a.0, a.1, a.2, a.3, record { same = SameDirection-trans h.4.same a.4; lowest = low })
+        (a.0, a.1, a.2, a.3, record { same = joined_ways h.4.same a.4; lowest = low })
 
 pub short_kept : (old rays : List Dir) → All IsShort old → All (Contains old) rays → All IsShort rays
 short_kept old rays h only = All-weaker (Contains old) IsShort (λ d k. All-contains IsShort old d h k) rays only

@@ -10,17 +10,12 @@ use Rattle.plane_exact.proofs.Sizes.{narrow}
 use Rattle.plane_exact.specs.Limits.{spread}
 use Rattle.plane_exact.specs.Directions.{IsWay}
 use Rattle.fan_order.specs.Rays.{IsShort, sectors_of}
-use Rattle.plane_exact.proofs.AngleOrder.{bend-same_way}
-use Rattle.plane_exact.specs.Orders.{bend}
+use Rattle.plane_exact.proofs.AngleOrder.{no_bend}
+use Rattle.plane_exact.specs.Orders.{direction_of, bend_of}
 use Rattle.plane_exact.specs.declared.dir.Dir.{Dir}
-use Rattle.point_set.specs.Sectors.{direction_of, bend_of, PointSameWay, IsStrictlyWithin, IsMiddleBetween, IsMiddle, IsInSector}
+use Rattle.point_set.specs.Sectors.{IsStrictlyWithin, IsMiddleBetween, IsMiddle, IsInSector}
 use Rattle.point_set.specs.Validity.{IsAtPlace}
 use Rattle.point_set.proofs.GermEdges.{squares}
-
--- directions that point the same way don't bend
-no_bend : (d e : Dir) → PointSameWay (direction_of d) (direction_of e) → bend_of (direction_of d) (direction_of e) ≡ pos 0
-unfolding bend bend_of
-no_bend d e h = bend-same_way d e (record { m = h.m; n = h.n; some = h.some; other = h.other; across = h.across; above = h.above })
 
 clash : {z : ℤ} → pos 0 <ℤ z → z ≤ℤ pos 0 → ⊥
 clash h k = <ℤ_irrefl (<ℤ-≤ℤ_trans h k)
@@ -40,7 +35,7 @@ module _ (r s m : Dir) (across : m.dx ≡ r.dx +ℤ s.dx) (above : m.dy ≡ r.dy
     left = λ _. (subst (λ (z : ℤ). pos 0 <ℤ z) (sym after) h, subst (λ (z : ℤ). pos 0 <ℤ z) (sym before) h);
     right = λ k. absurd (clash h (omega (arith, linear, k)));
     opposite = λ e _. absurd (clash h (omega (arith, linear, e)));
-    same = λ e _. clash h (let z = no_bend r s e in omega (arith, linear, z));
+    same = λ e _. clash h (let z = no_bend e in omega (arith, linear, z));
   }
 
 -- the sum isn't zero
@@ -62,7 +57,7 @@ module _ (r s m : Dir) (across : m.dx ≡ neg_ℤ r.dy) (above : m.dy ≡ r.dx) 
     left = λ k. absurd (clash k h);
     right = λ _. inl after_quarter;
     opposite = λ _ _. after_quarter;
-    same = λ _ e. clash after_quarter (let z = no_bend r m e in omega (arith, linear, z));
+    same = λ _ e. clash after_quarter (let z = no_bend e in omega (arith, linear, z));
   }
 
 -- ---- in the list of rays

@@ -1,8 +1,8 @@
 ghost use Rattle.std.specs.Prelude.{◌≡◌, ◌<◌, ◌≤◌, ◌+◌, length, IfOk, IsOk, Some, slice_get, All, Contains};
 ghost use Rattle.std.specs.List.{AllPairs, AllZip, Any};
 ghost use Rattle.std.specs.declared.cmp.Ordering.TheVariants.{Less};
-ghost use Rattle.plane_exact.specs.Orders.{compare_angles, IsSameDirection};
-ghost use Rattle.point_set.specs.Sectors.{direction_of, IsMiddle, IsInSector};
+ghost use Rattle.plane_exact.specs.Orders.{direction_of, compare_angles, IsSameDirection};
+ghost use Rattle.point_set.specs.Sectors.{IsMiddle, IsInSector};
 ghost use Rattle.fan_order.specs.Rays.{IsShort, IsRayOf, AreRaysOf, sectors_of};
 
 use crate::lowest::lowest;

@@ -9,7 +9,8 @@ use Rattle.whole_algebra.proofs.Polynomials.{var, num, ◌⊖◌, ◌⊗◌, min
 use Rattle.whole_algebra.proofs.Certificates.{same, same_from, scaled, vanishing, positive, less_by, impossible_by, ◌⊞◌, ◌⊠◌}
 use Rattle.whole_algebra.proofs.Signs.{by_sign, pos-*-pos, pos-*-neg, pos_factor, neg_factor, zero_factor, pos_nonzero}
 use lib.IntN.{*ℤ_comm, *ℤ-zero}
-use Rattle.plane_exact.specs.Orders.{past_half, bend, compare_angles, IsSameDirection}
+use Rattle.plane_exact.specs.Directions.{Direction}
+use Rattle.plane_exact.specs.Orders.{past_half, bend_of, bend, compare_angles, PointSameWay, IsSameDirection}
 use Rattle.plane_exact.specs.declared.dir.Dir.{Dir}
 use Rattle.plane_exact.proofs.Comparisons.{int_cmp_less, int_cmp_equal, less_int_cmp, equal_int_cmp, same_int_cmp, then_second}
 
@@ -70,7 +71,7 @@ opposite : (m n x y : ℤ) → m *ℤ neg_ℤ x ≡ n *ℤ neg_ℤ y → m *ℤ 
 opposite m n x y e = same_from (var 0 ⊗ var 2) (var 1 ⊗ var 3) (m ∷ n ∷ x ∷ y ∷ []) (scaled (num (negsuc 0)) (same (var 0 ⊗ minus (var 2)) (var 1 ⊗ minus (var 3)) e)) refl
 
 pub same_way_from : (d e : Dir) → past_half d.dx d.dy ≡ past_half e.dx e.dy → bend d e ≡ pos 0 → IsSameDirection d e
-unfolding bend
+unfolding bend_of
 same_way_from d e h z = go (past_half d.dx d.dy) refl
   where
     go : (t : Bool) → past_half d.dx d.dy ≡ t → IsSameDirection d e
@@ -80,13 +81,28 @@ same_way_from d e h z = go (past_half d.dx d.dy) refl
         let r = aligned_up (neg_ℤ d.dx) (neg_ℤ d.dy) (neg_ℤ e.dx) (neg_ℤ e.dy) (turned_back d (second_half d p)) (turned_back e (second_half e (sym h ∙ p))) back in
         record { m = r.0; n = r.1; some = r.2; other = r.3; across = opposite r.0 r.1 d.dx e.dx r.4; above = opposite r.0 r.1 d.dy e.dy r.5 }
 
--- one way has one half and no bend
-pub bend-same_way : (d e : Dir) → IsSameDirection d e → bend d e ≡ pos 0
-unfolding bend
-bend-same_way d e s =
-    zero_factor s.m (d.dx *ℤ e.dy -ℤ d.dy *ℤ e.dx) (pos_nonzero s.some)
-    (same_from (var 0 ⊗ (var 2 ⊗ var 5 ⊖ var 3 ⊗ var 4)) (num (pos 0)) (s.m ∷ s.n ∷ d.dx ∷ d.dy ∷ e.dx ∷ e.dy ∷ [])
+-- directions that point the same way don't bend
+pub no_bend : {u v : Direction} → PointSameWay u v → bend_of u v ≡ pos 0
+unfolding bend_of
+no_bend {u} {v} s =
+    zero_factor s.m (u.x *ℤ v.y -ℤ u.y *ℤ v.x) (pos_nonzero s.some)
+    (same_from (var 0 ⊗ (var 2 ⊗ var 5 ⊖ var 3 ⊗ var 4)) (num (pos 0)) (s.m ∷ s.n ∷ u.x ∷ u.y ∷ v.x ∷ v.y ∷ [])
     (scaled (var 5) (same (var 0 ⊗ var 2) (var 1 ⊗ var 4) s.across) ⊞ scaled (minus (var 4)) (same (var 0 ⊗ var 3) (var 1 ⊗ var 5) s.above)) refl)
+
+pub joined_ways : {u w z : Direction} → PointSameWay u w → PointSameWay w z → PointSameWay u z
+joined_ways {u} {w} {z} h k = record {
+  m = k.m *ℤ h.m;
+  n = h.n *ℤ k.n;
+  some = pos-*-pos k.some h.some;
+  other = pos-*-pos h.other k.other;
+  across = go h.m h.n k.m k.n u.x w.x z.x h.across k.across;
+  above = go h.m h.n k.m k.n u.y w.y z.y h.above k.above;
+}
+  where
+    go : (m n k l x y z : ℤ) → m *ℤ x ≡ n *ℤ y → k *ℤ y ≡ l *ℤ z → (k *ℤ m) *ℤ x ≡ (n *ℤ l) *ℤ z
+    go m n k l x y z e f =
+        same_from ((var 2 ⊗ var 0) ⊗ var 4) ((var 1 ⊗ var 3) ⊗ var 6) (m ∷ n ∷ k ∷ l ∷ x ∷ y ∷ z ∷ [])
+        (scaled (var 2) (same (var 0 ⊗ var 4) (var 1 ⊗ var 5) e) ⊞ scaled (var 1) (same (var 2 ⊗ var 5) (var 3 ⊗ var 6) f)) refl
 
 module _ (m n x y : ℤ) (hm : pos 0 <ℤ m) (hn : pos 0 <ℤ n) (e : m *ℤ x ≡ n *ℤ y) where
   multiple_pos : pos 0 <ℤ x → pos 0 <ℤ y
@@ -98,6 +114,7 @@ module _ (m n x y : ℤ) (hm : pos 0 <ℤ m) (hn : pos 0 <ℤ n) (e : m *ℤ x �
   multiple_zero : x ≡ pos 0 → y ≡ pos 0
   multiple_zero h = zero_factor n y (pos_nonzero hn) (sym e ∙ (λ i. m *ℤ h i) ∙ *ℤ-zero m)
 
+-- and they are of one half
 pub half-same_way : (d e : Dir) → IsSameDirection d e → past_half d.dx d.dy ≡ past_half e.dx e.dy
 half-same_way d e s = by_sign d.dy
     (λ h. half_down d.dx d.dy h ∙ sym (half_down e.dx e.dy (multiple_neg s.m s.n d.dy e.dy s.some s.other s.above h)))
@@ -125,7 +142,7 @@ then_gives_equal Greater p e = cc
 
 pub compare_angles-same : (d e : Dir) → IsSameDirection d e → compare_angles d e ≡ Equal
 compare_angles-same d e s =
-    then_second (bool_cmp (past_half d.dx d.dy) (past_half e.dx e.dy)) (int_cmp (pos 0) (bend d e)) (bool_cmp-equal (past_half d.dx d.dy) (past_half e.dx e.dy) (half-same_way d e s)) ∙ int_cmp_equal (pos 0) (bend d e) (sym (bend-same_way d e s))
+    then_second (bool_cmp (past_half d.dx d.dy) (past_half e.dx e.dy)) (int_cmp (pos 0) (bend d e)) (bool_cmp-equal (past_half d.dx d.dy) (past_half e.dx e.dy) (half-same_way d e s)) ∙ int_cmp_equal (pos 0) (bend d e) (sym (no_bend s))
 
 pub same_compare_angles : (d e : Dir) → compare_angles d e ≡ Equal → IsSameDirection d e
 same_compare_angles d e h =
@@ -161,7 +178,7 @@ upward_trans dx dy ex ey fx fy (inr d) (inr e) f h k =
     impossible_by (dx ∷ dy ∷ ex ∷ ey ∷ fx ∷ fy ∷ []) (positive (var 0 ⊗ var 3 ⊖ var 1 ⊗ var 2) h ⊞ scaled (minus (var 0)) (vanishing (var 3) e.0) ⊞ scaled (var 2) (vanishing (var 1) d.0)) refl
 
 bend_trans : (d e f : Dir) → past_half d.dx d.dy ≡ past_half e.dx e.dy → past_half e.dx e.dy ≡ past_half f.dx f.dy → pos 0 <ℤ bend d e → pos 0 <ℤ bend e f → pos 0 <ℤ bend d f
-unfolding bend
+unfolding bend_of
 bend_trans d e f h k p q = go (past_half e.dx e.dy) refl
   where
     back : (a b x y : ℤ) → neg_ℤ a *ℤ neg_ℤ y -ℤ neg_ℤ b *ℤ neg_ℤ x ≡ a *ℤ y -ℤ b *ℤ x
@@ -176,7 +193,7 @@ bend_trans d e f h k p q = go (past_half e.dx e.dy) refl
         (subst over (sym (back d.dx d.dy e.dx e.dy)) p) (subst over (sym (back e.dx e.dy f.dx f.dy)) q))
 
 bend-swap : (d e : Dir) → bend e d ≡ neg_ℤ (bend d e)
-unfolding bend
+unfolding bend_of
 bend-swap d e = identity (var 2 ⊗ var 1 ⊖ var 3 ⊗ var 0) (minus (var 0 ⊗ var 3 ⊖ var 1 ⊗ var 2)) (d.dx ∷ d.dy ∷ e.dx ∷ e.dy ∷ []) refl
 
 bend_reverse : (d e : Dir) → int_cmp (pos 0) (bend d e) ≡ ordering_reverse (int_cmp (pos 0) (bend e d))
@@ -186,7 +203,7 @@ bend_reverse d e =
     (identity (num (pos 1) ⊗ (num (pos 0) ⊖ var 0)) (num (pos 1) ⊗ (minus (var 0) ⊖ num (pos 0))) (bend d e ∷ []) refl ∙ ap (λ z. pos 1 *ℤ (z -ℤ pos 0)) (sym (bend-swap d e))))
 
 bend_congr : (d e f : Dir) → IsSameDirection d e → int_cmp (pos 0) (bend d f) ≡ int_cmp (pos 0) (bend e f)
-unfolding bend
+unfolding bend_of
 bend_congr d e f s =
     same_int_cmp (pos 0) (d.dx *ℤ f.dy -ℤ d.dy *ℤ f.dx) (pos 0) (e.dx *ℤ f.dy -ℤ e.dy *ℤ f.dx) s.m s.n s.some s.other
     (same_from (var 0 ⊗ (var 2 ⊗ var 7 ⊖ var 3 ⊗ var 6 ⊖ num (pos 0))) (var 1 ⊗ (var 4 ⊗ var 7 ⊖ var 5 ⊗ var 6 ⊖ num (pos 0))) (s.m ∷ s.n ∷ d.dx ∷ d.dy ∷ e.dx ∷ e.dy ∷ f.dx ∷ f.dy ∷ [])

@@ -8,3 +8,9 @@ pub record IsWay (dx dy : ℤ) : Type 0 where
   pub bottom : negsuc 8388607 ≤ℤ dy
   pub top : dy ≤ℤ pos 8388608
   pub turned : ¬ ((dx ≡ pos 0) × (dy ≡ pos 0))
+
+-- A direction: two whole numbers of any size, not both 0.
+pub record Direction : Type 0 where
+  pub x : ℤ
+  pub y : ℤ
+  pub moves : ¬ ((x ≡ pos 0) × (y ≡ pos 0))

@@ -4,6 +4,7 @@ use Rattle.std.specs.declared.cmp.Ordering.{Ordering}
 use Rattle.std.specs.declared.cmp.Ordering.TheVariants.{Less}
 use Rattle.std.specs.Ordering.{ordering_then, bool_cmp, int_cmp}
 use Rattle.plane_exact.specs.Plane.{Point, shift, rise}
+use Rattle.plane_exact.specs.Directions.{Direction}
 use Rattle.plane_exact.specs.declared.dir.Dir.{Dir}
 
 -- How the fraction x/w compares with the fraction u/v, for positive w and v.
@@ -29,22 +30,34 @@ past_half dx (negsuc n) = true
 past_half (pos m) (pos zero) = false
 past_half (negsuc m) (pos zero) = true
 
--- The cross product of two directions: positive where e is to the left of d.
-unfoldable pub bend : Dir → Dir → ℤ
-bend d e = (d.dx *ℤ e.dy) -ℤ (d.dy *ℤ e.dx)
+-- A direction of the code, as a direction.
+abbrev pub direction_of : Dir → Direction
+direction_of d = record { x = d.dx; y = d.dy; moves = d.way.turned }
+
+-- The cross product of two directions: positive where v is to the left of u, less than half a turn.
+unfoldable pub bend_of : Direction → Direction → ℤ
+bend_of u v = (u.x *ℤ v.y) -ℤ (u.y *ℤ v.x)
+
+-- The cross product of two directions of the code.
+abbrev pub bend : Dir → Dir → ℤ
+bend d e = bend_of (direction_of d) (direction_of e)
 
 -- Directions by their angle, counter-clockwise from the positive x direction. Of two in one half the first has the other to its left.
 abbrev pub compare_angles : Dir → Dir → Ordering
 compare_angles d e = ordering_then (bool_cmp (past_half d.dx d.dy) (past_half e.dx e.dy)) (int_cmp (pos 0) (bend d e))
 
 -- Two directions point the same way: a positive multiple of one is a positive multiple of the other.
-pub record IsSameDirection (d e : Dir) : Type 0 where
+pub record PointSameWay (u v : Direction) : Type 0 where
   pub m : ℤ
   pub n : ℤ
   pub some : pos 0 <ℤ m
   pub other : pos 0 <ℤ n
-  pub across : m *ℤ d.dx ≡ n *ℤ e.dx
-  pub above : m *ℤ d.dy ≡ n *ℤ e.dy
+  pub across : m *ℤ u.x ≡ n *ℤ v.x
+  pub above : m *ℤ u.y ≡ n *ℤ v.y
+
+-- Two directions of the code point the same way.
+abbrev pub IsSameDirection : Dir → Dir → Type 0
+IsSameDirection d e = PointSameWay (direction_of d) (direction_of e)
 
 -- p is before q, by x and then by y.
 abbrev pub IsBefore : Point → Point → Type 0

@@ -15,6 +15,7 @@ use Rattle.plane_exact.proofs.PlaneMix.{start_on_segment, end_on_segment}
 use Rattle.plane_exact.proofs.PlaneOn.{Decides-is_on_segment}
 use Rattle.plane_exact.specs.Plane.{Point, IsMix, IsOnSegment, rise, shift}
 use Rattle.plane_exact.specs.Places.{point_of}
+use Rattle.plane_exact.specs.Directions.{Direction}
 use Rattle.plane_exact.specs.declared.point.Pt.{Pt}
 use Rattle.plane_exact.specs.declared.point.Seg.{Seg}
 use Rattle.point_set.specs.declared.figure.Area.{Area}
@@ -24,7 +25,7 @@ use Rattle.point_set.specs.Rings.{edges_of, is_on_edge, is_on_edges, is_inside}
 use Rattle.point_set.specs.Location.{location, location_by, rings_of, edges_of_rings}
 use Rattle.point_set.specs.Shape.{IsRingShaped, IsAreaShaped}
 use Rattle.point_set.specs.Validity.{IsAtPlace}
-use Rattle.point_set.specs.Germ.{Direction, IsAway, HoldsAlong, IsGerm, IsPairGerm, IsInCone}
+use Rattle.point_set.specs.Germ.{IsAway, HoldsAlong, IsGerm, IsPairGerm, IsInCone}
 use Rattle.point_set.proofs.ParityRing.{Misses, inside_stays, misses_left, misses_right, misses_start, misses_end}
 use Rattle.point_set.proofs.Room.{size_of, size_is}
 use Rattle.point_set.proofs.Germs.{away_point, away_point_is, away_shift, away_rise}

@@ -13,9 +13,10 @@ use Rattle.whole_algebra.proofs.Signs.{by_sign, <ℤ_weaken, pos-*-pos, nonneg-*
 use Rattle.plane_exact.proofs.PlaneOn.{Decides-is_on_segment, Decides-int_lt}
 use Rattle.plane_exact.specs.Plane.{Point, IsOnSegment, rise, shift}
 use Rattle.plane_exact.specs.Places.{point_of}
+use Rattle.plane_exact.specs.Directions.{Direction}
 use Rattle.plane_exact.specs.declared.point.Seg.{Seg}
 use Rattle.point_set.specs.Rings.{is_on_edge, is_on_edges}
-use Rattle.point_set.specs.Germ.{Direction, IsAway, IsInCone}
+use Rattle.point_set.specs.Germ.{IsAway, IsInCone}
 use Rattle.point_set.proofs.ParityRing.{Misses}
 use Rattle.point_set.proofs.Room.{HoldBoth, room, near_mix, shift_mix, rise_mix}
 use Rattle.point_set.proofs.Germs.{away_near, far_for, between_in_cone, some_weight}

@@ -7,14 +7,17 @@ use Rattle.whole_algebra.proofs.Laws.{linear}
 use Rattle.whole_algebra.proofs.Polynomials.{var, num, ◌⊕◌, ◌⊖◌, ◌⊗◌, minus, identity}
 use Rattle.whole_algebra.proofs.Certificates.{natural, positive, less, same, same_from, less_by, impossible_by, whole, scaled, ◌⊞◌, ◌⊠◌}
 use Rattle.whole_algebra.proofs.Signs.{by_sign, <ℤ_weaken, <ℤ_apart, pos_nonzero, nonneg-*-nonneg, pos-+-nonneg, zero_factor}
+use Rattle.plane_exact.proofs.AngleOrder.{no_bend}
 use Rattle.plane_exact.specs.Plane.{Point, rise, shift}
+use Rattle.plane_exact.specs.Directions.{Direction}
 use Rattle.plane_exact.specs.declared.point.Seg.{Seg}
+use Rattle.plane_exact.specs.Orders.{bend_of, PointSameWay}
 use Rattle.point_set.specs.declared.figure.Area.{Area}
 use Rattle.point_set.specs.Rings.{is_on_edge, is_on_edges}
 use Rattle.point_set.specs.Location.{rings_of, edges_of_rings}
 use Rattle.point_set.specs.Shape.{IsAreaShaped}
-use Rattle.point_set.specs.Germ.{Direction, IsGerm, IsInCone}
-use Rattle.point_set.specs.Sectors.{bend_of, PointSameWay, IsStrictlyWithin, HasNoEdgeWithin}
+use Rattle.point_set.specs.Germ.{IsGerm, IsInCone}
+use Rattle.point_set.specs.Sectors.{IsStrictlyWithin, HasNoEdgeWithin}
 use Rattle.point_set.proofs.GermEdges.{AreClear, shift_self, rise_self, moving}
 use Rattle.point_set.proofs.GermAreas.{germ_exists, germ_same, clear_from}
 use Rattle.point_set.proofs.ParityFlip.{clash_lt}
@@ -121,16 +124,6 @@ unfolding bend_of
 right_pointed s d e k l q = nothing_right s.y s.x (right_value s.x s.y d.x d.y e.x e.y q.i q.j (pos 0) (pos 0) q.first q.second q.some q.across q.above k l)
 
 -- ---- the same way
-no_bend : {u w : Direction} → PointSameWay u w → bend_of u w ≡ pos 0
-unfolding bend_of
-no_bend {u} {w} h = go u.x u.y w.x w.y h.m h.n h.some h.across h.above
-  where
-    go : (ux uy wx wy m n : ℤ) → pos 0 <ℤ m → m *ℤ ux ≡ n *ℤ wx → m *ℤ uy ≡ n *ℤ wy → (ux *ℤ wy) -ℤ (uy *ℤ wx) ≡ pos 0
-    go ux uy wx wy m n some across above =
-        zero_factor m ((ux *ℤ wy) -ℤ (uy *ℤ wx)) (pos_nonzero some)
-        (same_from (var 4 ⊗ (var 0 ⊗ var 3 ⊖ var 1 ⊗ var 2)) (num (pos 0)) (ux ∷ uy ∷ wx ∷ wy ∷ m ∷ n ∷ [])
-        (scaled (var 3) (same (var 4 ⊗ var 0) (var 5 ⊗ var 2) across) ⊞ scaled (minus (var 2)) (same (var 4 ⊗ var 1) (var 5 ⊗ var 3) above)) refl)
-
 -- k of r are l of d, for k and l of at least 0 that aren't both 0
 same_way_from : (r d : Direction) (k l : ℤ) → pos 0 ≤ℤ k → pos 0 ≤ℤ l → pos 0 <ℤ (k +ℤ l) → k *ℤ r.x ≡ l *ℤ d.x → k *ℤ r.y ≡ l *ℤ d.y → PointSameWay r d
 same_way_from r d k l hk hl h across above = by_sign k (λ n. absurd (under k n hk)) (λ z. absurd (d.moves (none_first r.x d.x z across, none_first r.y d.y z above))) some_k

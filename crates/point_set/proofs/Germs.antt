@@ -5,7 +5,8 @@ use Rattle.whole_algebra.proofs.Polynomials.{var, num, ◌⊕◌, ◌⊖◌, ◌
 use Rattle.whole_algebra.proofs.Certificates.{natural, positive, at_most, same, same_from, at_most_by, less_by, whole, scaled, ◌⊞◌, ◌⊠◌}
 use Rattle.whole_algebra.proofs.Signs.{<ℤ_weaken, scale_≤ℤ, pos-*-pos, nonneg-*-nonneg}
 use Rattle.plane_exact.specs.Plane.{Point, IsMix, IsOnSegment, rise, shift}
-use Rattle.point_set.specs.Germ.{Direction, IsAway, IsInCone}
+use Rattle.plane_exact.specs.Directions.{Direction}
+use Rattle.point_set.specs.Germ.{IsAway, IsInCone}
 use Rattle.point_set.proofs.Room.{IsNear, shift_mix, rise_mix, IsSize, size_of, size_is}
 
 -- ---- the points v + d/n

@@ -8,17 +8,19 @@ use Rattle.std.proofs.lemmas.Int.{by_lt_z}
 use Rattle.std.proofs.lemmas.Option.{slice_get_within, slice_get_read, get_or_from_slice_get}
 use Rattle.whole_algebra.proofs.Laws.{linear}
 use Rattle.whole_algebra.proofs.Polynomials.{var, num, ◌⊖◌, ◌⊗◌, minus}
-use Rattle.whole_algebra.proofs.Certificates.{positive, at_most, vanishing, same, same_from, less_by, impossible_by, scaled, ◌⊞◌, ◌⊠◌}
-use Rattle.whole_algebra.proofs.Signs.{by_sign, <ℤ_apart, pos-*-pos}
+use Rattle.whole_algebra.proofs.Certificates.{positive, at_most, vanishing, same, less_by, impossible_by, scaled, ◌⊞◌, ◌⊠◌}
+use Rattle.whole_algebra.proofs.Signs.{by_sign, <ℤ_apart}
+use Rattle.plane_exact.proofs.AngleOrder.{joined_ways}
 use Rattle.plane_exact.proofs.Comparisons.{less_int_cmp}
-use Rattle.plane_exact.specs.Orders.{past_half, bend, compare_angles}
+use Rattle.plane_exact.specs.Directions.{Direction}
+use Rattle.plane_exact.specs.Orders.{past_half, direction_of, bend_of, bend, compare_angles, PointSameWay}
 use Rattle.plane_exact.specs.Plane.{Point}
 use Rattle.plane_exact.specs.declared.dir.Dir.{Dir}
 use Rattle.im_matrix.specs.declared.Loc.{Loc}
 use Rattle.point_set.specs.declared.figure.Area.{Area}
-use Rattle.point_set.specs.Germ.{Direction, IsGerm}
+use Rattle.point_set.specs.Germ.{IsGerm}
 use Rattle.point_set.specs.Location.{rings_of, edges_of_rings}
-use Rattle.point_set.specs.Sectors.{direction_of, bend_of, PointSameWay, IsStrictlyWithin, HasNoEdgeWithin, AreRaysAt, IsInSector}
+use Rattle.point_set.specs.Sectors.{IsStrictlyWithin, HasNoEdgeWithin, AreRaysAt, IsInSector}
 use Rattle.point_set.specs.Shape.{IsAreaShaped}
 use Rattle.point_set.specs.Validity.{IsAtPlace}
 use Rattle.point_set.proofs.GermAreas.{clear_from}
@@ -100,7 +102,7 @@ IsAhead d e =
     ⊎ ((past_half d.dx d.dy ≡ past_half e.dx e.dy) × (pos 0 <ℤ bend_of (direction_of d) (direction_of e)))
 
 ahead_from : (d e : Dir) → compare_angles d e ≡ Less → IsAhead d e
-unfolding bend bend_of
+unfolding bend_of
 ahead_from d e h = go (past_half d.dx d.dy) (past_half e.dx e.dy) h
   where
     go : (p q : Bool) → ordering_then (bool_cmp p q) (int_cmp (pos 0) (bend d e)) ≡ Less → ((p ≡ false) × (q ≡ true)) ⊎ ((p ≡ q) × (pos 0 <ℤ bend d e))
@@ -133,21 +135,6 @@ opposed u w h k = impossible_by (u.x ∷ u.y ∷ w.x ∷ w.y ∷ []) (positive (
 
 turned_way : {u w : Direction} → PointSameWay u w → PointSameWay w u
 turned_way h = record { m = h.n; n = h.m; some = h.other; other = h.some; across = sym h.across; above = sym h.above }
-
-joined_ways : {u w z : Direction} → PointSameWay u w → PointSameWay w z → PointSameWay u z
-joined_ways {u} {w} {z} h k = record {
-  m = k.m *ℤ h.m;
-  n = h.n *ℤ k.n;
-  some = pos-*-pos k.some h.some;
-  other = pos-*-pos h.other k.other;
-  across = go h.m h.n k.m k.n u.x w.x z.x h.across k.across;
-  above = go h.m h.n k.m k.n u.y w.y z.y h.above k.above;
-}
-  where
-    go : (m n k l x y z : ℤ) → m *ℤ x ≡ n *ℤ y → k *ℤ y ≡ l *ℤ z → (k *ℤ m) *ℤ x ≡ (n *ℤ l) *ℤ z
-    go m n k l x y z e f =
-        same_from ((var 2 ⊗ var 0) ⊗ var 4) ((var 1 ⊗ var 3) ⊗ var 6) (m ∷ n ∷ k ∷ l ∷ x ∷ y ∷ z ∷ [])
-        (scaled (var 2) (same (var 0 ⊗ var 4) (var 1 ⊗ var 5) e) ⊞ scaled (var 1) (same (var 2 ⊗ var 5) (var 3 ⊗ var 6) f)) refl
 
 -- what is to the left of a direction is to the left of each that points the same way
 left_of_way : {u w : Direction} (s : Direction) → PointSameWay u w → pos 0 <ℤ bend_of w s → pos 0 <ℤ bend_of u s

@@ -11,6 +11,7 @@ use Rattle.whole_algebra.proofs.Signs.{pos-*-pos}
 use Rattle.plane_exact.proofs.PlaneMix.{on_from_strictly_between}
 use Rattle.plane_exact.specs.Plane.{Point, IsSamePoint, rise, shift}
 use Rattle.plane_exact.specs.Places.{point_of}
+use Rattle.plane_exact.specs.Directions.{Direction}
 use Rattle.plane_exact.specs.declared.point.Pt.{Pt}
 use Rattle.plane_exact.specs.declared.point.Seg.{Seg}
 use Rattle.point_set.specs.declared.edge.Hand.{Hand}
@@ -21,7 +22,7 @@ use Rattle.point_set.specs.Rings.{edges_of, is_on_edge, is_on_edges, is_inside}
 use Rattle.point_set.specs.Location.{location_by, rings_of, edges_of_rings}
 use Rattle.point_set.specs.Shape.{IsClosed, IsRingShaped, IsAreaShaped, IsWellShaped}
 use Rattle.point_set.specs.Validity.{IsAtPlace, IsOnEdge, RingsShareSegment, HasHoleOutside, HasHolesThatOverlap, IsValid, rings_share_edge, hole_outside, holes_overlap}
-use Rattle.point_set.specs.Germ.{Direction, IsAway, HoldsAlong, IsGerm}
+use Rattle.point_set.specs.Germ.{IsAway, HoldsAlong, IsGerm}
 use Rattle.point_set.specs.Sides.{slope, PointsTo, other_hand, IsInsideHand}
 use Rattle.point_set.specs.Edges.{IsOnEdgeAlone, IsAreaHand}
 use Rattle.point_set.proofs.ParityFlip.{HasSign, signed_nonzero}

@@ -6,12 +6,13 @@ use Rattle.whole_algebra.proofs.Polynomials.{var, num, ◌⊕◌, ◌⊖◌, ◌
 use Rattle.plane_exact.proofs.PlaneMix.{start_on_segment}
 use Rattle.plane_exact.specs.Plane.{Point, IsSamePoint, IsOnSegment, IsStrictlyBetween}
 use Rattle.plane_exact.specs.Places.{point_of}
+use Rattle.plane_exact.specs.Directions.{Direction}
 use Rattle.plane_exact.specs.declared.point.Pt.{Pt}
 use Rattle.plane_exact.specs.declared.point.Seg.{Seg}
 use Rattle.point_set.specs.Rings.{edges_of, is_on_edge, is_inside}
 use Rattle.point_set.specs.Shape.{IsClosed}
 use Rattle.point_set.specs.Validity.{IsAtPlace}
-use Rattle.point_set.specs.Germ.{Direction, IsAway, HoldsAlong}
+use Rattle.point_set.specs.Germ.{IsAway, HoldsAlong}
 use Rattle.point_set.specs.Sides.{slope}
 use Rattle.point_set.proofs.ParityFlip.{HasSign}
 use Rattle.point_set.proofs.ParityRing.{Misses, inside_stays, inside_flips, some_same}

@@ -12,9 +12,10 @@ use Rattle.plane_exact.proofs.PlaneOn.{Decides-is_on_segment, mix_turn, mix_shif
 use Rattle.plane_exact.proofs.PlaneSame.{same_refl, same_sym}
 use Rattle.plane_exact.specs.Plane.{Point, IsSamePoint, IsStrictlyBetween, turn, rise, shift}
 use Rattle.plane_exact.specs.Places.{point_of}
+use Rattle.plane_exact.specs.Directions.{Direction}
 use Rattle.plane_exact.specs.declared.point.Seg.{Seg}
 use Rattle.point_set.specs.Validity.{IsAtPlace, IsOnEdge}
-use Rattle.point_set.specs.Germ.{Direction, IsInCone}
+use Rattle.point_set.specs.Germ.{IsInCone}
 use Rattle.point_set.specs.Sides.{slope}
 use Rattle.point_set.proofs.ParityFlip.{HasSign, signed_nonzero}
 use Rattle.point_set.proofs.ParityRing.{some_same}

@@ -12,12 +12,13 @@ use Rattle.plane_exact.proofs.PlaneMix.{on_from_strictly_between, mix_flip}
 use Rattle.plane_exact.proofs.PlaneSame.{same_sym}
 use Rattle.plane_exact.specs.Plane.{Point, IsSamePoint, IsStrictlyBetween, turn, shift, rise}
 use Rattle.plane_exact.specs.Places.{point_of}
+use Rattle.plane_exact.specs.Directions.{Direction}
 use Rattle.plane_exact.specs.declared.point.Pt.{Pt}
 use Rattle.plane_exact.specs.declared.point.Seg.{Seg}
 use Rattle.point_set.specs.Rings.{edges_of, is_on_edge, is_inside}
 use Rattle.point_set.specs.Shape.{IsClosed}
 use Rattle.point_set.specs.Validity.{IsAtPlace, IsOnEdge}
-use Rattle.point_set.specs.Germ.{Direction, IsAway, HoldsAlong, IsInCone}
+use Rattle.point_set.specs.Germ.{IsAway, HoldsAlong, IsInCone}
 use Rattle.point_set.specs.Sides.{slope}
 use Rattle.point_set.proofs.ParityFlip.{HasSign, signed_nonzero}
 use Rattle.point_set.proofs.ParityRing.{some_same}

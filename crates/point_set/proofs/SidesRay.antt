@@ -13,11 +13,12 @@ use Rattle.plane_exact.proofs.PlaneTurn.{point_at, turn_poly, ◌then◌, turn_s
 use Rattle.plane_exact.proofs.PlaneMix.{segment_flip}
 use Rattle.plane_exact.specs.Plane.{Point, IsOnSegment, IsStrictlyBetween, turn, rise}
 use Rattle.plane_exact.specs.Places.{point_of}
+use Rattle.plane_exact.specs.Directions.{Direction}
 use Rattle.plane_exact.specs.declared.point.Pt.{Pt}
 use Rattle.plane_exact.specs.declared.point.Seg.{Seg}
 use Rattle.point_set.specs.Rings.{edges_of, is_low, crosses_from, crosses, differ, is_odd, is_inside}
 use Rattle.point_set.specs.Validity.{IsAtPlace, IsOnEdge}
-use Rattle.point_set.specs.Germ.{Direction, IsAway, HoldsAlong}
+use Rattle.point_set.specs.Germ.{IsAway, HoldsAlong}
 use Rattle.point_set.specs.Sides.{slope}
 use Rattle.point_set.proofs.ParityTests.{same_tests}
 use Rattle.point_set.proofs.Parity.{heights, level_by, tells_low, rise_p}

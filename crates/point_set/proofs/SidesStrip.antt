@@ -13,12 +13,13 @@ use Rattle.plane_exact.proofs.PlaneMix.{on_from_strictly_between}
 use Rattle.plane_exact.proofs.PlaneSame.{same_sym}
 use Rattle.plane_exact.specs.Plane.{Point, IsSamePoint, IsMix, IsOnSegment, IsStrictlyBetween, turn}
 use Rattle.plane_exact.specs.Places.{point_of}
+use Rattle.plane_exact.specs.Directions.{Direction}
 use Rattle.plane_exact.specs.declared.point.Pt.{Pt}
 use Rattle.plane_exact.specs.declared.point.Seg.{Seg}
 use Rattle.point_set.specs.Rings.{edges_of, is_on_edge, is_on_edges, is_inside}
 use Rattle.point_set.specs.Shape.{IsClosed}
 use Rattle.point_set.specs.Validity.{IsAtPlace, IsOnEdge}
-use Rattle.point_set.specs.Germ.{Direction, IsAway, HoldsAlong}
+use Rattle.point_set.specs.Germ.{IsAway, HoldsAlong}
 use Rattle.point_set.proofs.Parity.{AreApart}
 use Rattle.point_set.proofs.ParityFlip.{HasSign, turn_mix, signed_nonzero}
 use Rattle.point_set.proofs.ParityRing.{inside_stays, some_same}

@@ -6,6 +6,7 @@ use Rattle.im_matrix.specs.declared.Loc.TheVariants.{Interior, Exterior}
 use Rattle.plane_exact.specs.Places.{point_of}
 use Rattle.plane_exact.specs.Plane.{Point, IsStrictlyBetween}
 use Rattle.plane_exact.specs.Windows.{IsLeastWindow, HasCommonPoint}
+use Rattle.plane_exact.specs.Directions.{Direction}
 use Rattle.plane_exact.specs.declared.point.Pt.{Pt}
 use Rattle.plane_exact.specs.declared.point.Seg.{Seg}
 use Rattle.plane_exact.specs.declared.window.Window.{Window}
@@ -18,7 +19,7 @@ use Rattle.point_set.specs.declared.figure.Area.{Area}
 use Rattle.point_set.specs.declared.figure.Figure.{Figure}
 use Rattle.point_set.specs.Rings.{edges_of}
 use Rattle.point_set.specs.Location.{rings_of, edges_of_rings}
-use Rattle.point_set.specs.Germ.{Direction, IsGerm}
+use Rattle.point_set.specs.Germ.{IsGerm}
 use Rattle.point_set.specs.Sides.{PointsTo, other_hand}
 use Rattle.point_set.specs.Validity.{IsAtPlace, IsOnEdge}
 

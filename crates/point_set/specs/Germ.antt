@@ -3,17 +3,12 @@ use Rattle.std.specs.Prelude.{◌≡◌, ℕ, ◌<◌, ℤ, pos, ◌+ℤ◌, ◌
 use Rattle.im_matrix.specs.declared.Cell.{Cell}
 use Rattle.im_matrix.specs.declared.Loc.{Loc}
 use Rattle.plane_exact.specs.Plane.{Point, shift, rise}
+use Rattle.plane_exact.specs.Directions.{Direction}
 use Rattle.point_set.specs.declared.figure.Area.{Area}
 use Rattle.point_set.specs.declared.figure.Figure.{Figure}
 use Rattle.point_set.specs.declared.rule.Rule.{Rule}
 use Rattle.point_set.specs.Location.{location}
 use Rattle.point_set.specs.Relation.{IsInCell}
-
--- A direction: two whole numbers of any size, not both 0.
-pub record Direction : Type 0 where
-  pub x : ℤ
-  pub y : ℤ
-  pub moves : ¬ ((x ≡ pos 0) × (y ≡ pos 0))
 
 -- p is v + d/n, with denominators cleared; n is at least 1 wherever this is asked.
 pub record IsAway (v : Point) (d : Direction) (n : ℕ) (p : Point) : Type 0 where

@@ -1,34 +1,18 @@
 -- The sectors between neighbouring directions, a sector's middle, and the sectors that are free of an area's edges.
-use Rattle.std.specs.Prelude.{◌≡◌, true, ℕ, ◌+◌, ◌%◌, ℤ, pos, ◌+ℤ◌, ◌-ℤ◌, ◌*ℤ◌, neg_ℤ, ◌<ℤ◌, ◌≤ℤ◌, ◌⊎◌, List, [], ◌∷◌, length}
+use Rattle.std.specs.Prelude.{◌≡◌, true, ℕ, ◌+◌, ◌%◌, pos, ◌+ℤ◌, neg_ℤ, ◌<ℤ◌, ◌≤ℤ◌, ◌⊎◌, List, [], ◌∷◌, length}
 use Rattle.std.specs.List.{AllPairs, Any}
 use Rattle.std.specs.declared.cmp.Ordering.TheVariants.{Less}
 use Rattle.plane_exact.specs.Plane.{Point}
 use Rattle.plane_exact.specs.Places.{point_of}
-use Rattle.plane_exact.specs.Orders.{compare_angles}
+use Rattle.plane_exact.specs.Directions.{Direction}
+use Rattle.plane_exact.specs.Orders.{direction_of, bend_of, compare_angles, PointSameWay}
 use Rattle.plane_exact.specs.declared.dir.Dir.{Dir}
 use Rattle.plane_exact.specs.declared.point.Seg.{Seg}
 use Rattle.point_set.specs.declared.figure.Area.{Area}
 use Rattle.point_set.specs.Rings.{is_on_edge}
 use Rattle.point_set.specs.Location.{rings_of, edges_of_rings}
-use Rattle.point_set.specs.Germ.{Direction, IsInCone}
+use Rattle.point_set.specs.Germ.{IsInCone}
 use Rattle.point_set.specs.Validity.{IsAtPlace}
-
--- A direction of the code, as a direction.
-abbrev pub direction_of : Dir → Direction
-direction_of d = record { x = d.dx; y = d.dy; moves = d.way.turned }
-
--- The cross product of two directions: positive where v is to the left of u, less than half a turn.
-unfoldable pub bend_of : Direction → Direction → ℤ
-bend_of u v = (u.x *ℤ v.y) -ℤ (u.y *ℤ v.x)
-
--- Two directions point the same way: a positive multiple of one is a positive multiple of the other.
-pub record PointSameWay (u v : Direction) : Type 0 where
-  pub m : ℤ
-  pub n : ℤ
-  pub some : pos 0 <ℤ m
-  pub other : pos 0 <ℤ n
-  pub across : m *ℤ u.x ≡ n *ℤ v.x
-  pub above : m *ℤ u.y ≡ n *ℤ v.y
 
 -- d lies strictly between r and s, counter-clockwise after r and before s.
 --   Where s is to the left of r, d is to the left of r and s is to the left of d.

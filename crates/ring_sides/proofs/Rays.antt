@@ -12,13 +12,13 @@ use Rattle.whole_algebra.proofs.Signs.{by_order}
 use Rattle.plane_exact.proofs.PlaneTurn.{PolyPoint, turn_poly}
 use Rattle.plane_exact.specs.Plane.{IsSamePoint, IsStrictlyBetween, turn}
 use Rattle.plane_exact.specs.Places.{point_of}
+use Rattle.plane_exact.specs.Directions.{Direction}
 use Rattle.plane_exact.specs.declared.point.Pt.{Pt}
 use Rattle.plane_exact.specs.declared.point.Seg.{Seg}
 use Rattle.point_set.specs.declared.edge.Hand.TheVariants as hand
 use Rattle.point_set.specs.Rings.{edges_of, is_low, is_odd}
 use Rattle.point_set.specs.Shape.{IsClosed}
 use Rattle.point_set.specs.Validity.{IsAtPlace, CrossesItself}
-use Rattle.point_set.specs.Germ.{Direction}
 use Rattle.point_set.specs.Sides.{slope, IsInsideHand}
 use Rattle.point_set.proofs.ParityTests.{tells_lt, tells_le, same_tests}
 use Rattle.point_set.proofs.ParityFlip.{HasSign, crossing_of}

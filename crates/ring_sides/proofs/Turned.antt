@@ -12,12 +12,12 @@ use Rattle.plane_exact.proofs.PlaneMix.{segment_flip}
 use Rattle.plane_exact.proofs.PlaneOn.{Decides-is_on_segment}
 use Rattle.plane_exact.specs.Plane.{Point}
 use Rattle.plane_exact.specs.Places.{point_of}
+use Rattle.plane_exact.specs.Directions.{Direction}
 use Rattle.plane_exact.specs.declared.point.Pt.{Pt}
 use Rattle.plane_exact.specs.declared.point.Seg.{Seg}
 use Rattle.point_set.specs.declared.edge.Hand.TheVariants as hand
 use Rattle.point_set.specs.Rings.{is_same_position, edge_before, edges_after, edges_of, is_on_edge, is_on_edges, crosses, differ, is_odd, is_inside}
 use Rattle.point_set.specs.Validity.{IsAtPlace}
-use Rattle.point_set.specs.Germ.{Direction}
 use Rattle.point_set.specs.Sides.{slope, HoldsBeside, IsInsideHand}
 use Rattle.point_set.proofs.Parity.{crosses_swap}
 use Rattle.point_set.proofs.ParityTests.{differ_assoc, differ_comm, differ_none}

@@ -1,7 +1,7 @@
 use Rattle.std.proofs.Common.{◌≡◌, pos, Equal, w64, refl, sym, ◌∙◌, ap}
 use Rattle.std.specs.Ordering.{bool_cmp, int_cmp}
 use Rattle.whole_algebra.proofs.Computed.{read, product, difference, stored}
-use Rattle.plane_exact.specs.Orders.{bend, compare_angles, past_half}
+use Rattle.plane_exact.specs.Orders.{bend_of, bend, compare_angles, past_half}
 use Rattle.plane_exact.proofs.AngleOrder.{compare_angles-same, same_compare_angles}
 use Rattle.plane_exact.proofs.Comparisons.{then_first, then_second}
 use Rattle.plane_exact.proofs.Sizes.{via, way_size_across, way_size_above}
@@ -22,7 +22,7 @@ returns-in_default c = record {
 
 -- by the cross product, where they are the same
 equal_order : (c : goal.After-cmp-in-Equal) → c.cmp-in-Equal.result ≡ compare_angles c.args.d c.args.e
-unfolding bend
+unfolding bend_of
 equal_order c =
     let d = c.args.d in
     let e = c.args.e in
