@@ -5,11 +5,11 @@ use Rattle.std.proofs.lemmas.Int.{ints}
 use Rattle.whole_algebra.proofs.Laws.{linear, +ℤ-*ℤ, one-*ℤ, neg-*ℤ}
 use Rattle.whole_algebra.proofs.Signs.{cancel_<ℤ_right, cancel_≤ℤ_right, scale_≤ℤ_right, <ℤ_weaken, ≤ℤ-<ℤ_trans, ≤ℤ_trans}
 use mir.Syntax.{w128}
-use Rattle.whole_algebra.proofs.Computed.{Computes, read, known, stored, sum, literal}
-use Rattle.plane_exact.proofs.Sizes.{wide, numerator_size, weight_size}
+use Rattle.whole_algebra.proofs.Computed.{Computes, read, known, stored, sum, literal, wide}
+use Rattle.plane_exact.proofs.Laws.{numerator_size, weight_size}
 use Rattle.plane_exact.specs.Limits.{limit, largest, heaviest}
 use Rattle.plane_exact.specs.Nodes.{IsFraction}
-use Rattle.plane_exact.specs.Plane.{Point}
+use Rattle.plane_laws.specs.Plane.{Point}
 use Rattle.area_locator.specs.Levels.{IsLevel}
 
 -- the whole number f is the floor of y/w

@@ -7,16 +7,16 @@ use Rattle.std.proofs.lemmas.Bool.Decides.{same_from_decides, Decides-like}
 use Rattle.std.proofs.Math.Bool.{and-false}
 use Rattle.whole_algebra.proofs.Laws.{linear, *ℤ_one}
 use Rattle.whole_algebra.proofs.Signs.{not_≤ℤ, pos_nonzero, <ℤ_apart}
-use Rattle.plane_exact.proofs.PlaneOn.{Decides-int_le, Decides-is_on_segment}
-use Rattle.plane_exact.proofs.SignFacts.{zero_sign}
-use Rattle.plane_exact.specs.Plane.{Point, IsOnSegment, turn, rise, shift, is_same_way}
+use Rattle.plane_laws.proofs.Segments.On.{Decides-int_le, Decides-is_on_segment}
+use Rattle.plane_exact.proofs.Laws.{zero_sign}
+use Rattle.plane_laws.specs.Plane.{Point, IsOnSegment, turn, rise, shift, is_same_way}
 use Rattle.plane_exact.specs.Places.{point_of}
 use Rattle.plane_exact.specs.Signs.{sign_of}
 use Rattle.plane_exact.specs.declared.point.Pt.{Pt}
 use Rattle.plane_exact.specs.declared.point.Seg.{Seg}
 use Rattle.plane_exact.specs.declared.sign.Sign.TheVariants.{Minus, Zero, Plus}
 use Rattle.point_set.specs.Rings.{is_on_edge, is_on_edges, is_low, is_odd, is_same_position, differ, crosses, crosses_from, edges_after, edge_before}
-use Rattle.point_set.proofs.ParityFlip.{crosses_none}
+use Rattle.ring_laws.proofs.Parity.Flip.{crosses_none}
 use Rattle.area_locator.specs.Levels.{IsLevel}
 use Rattle.area_locator.specs.Touches.{touch_by, touch_of}
 use Rattle.area_locator.specs.declared.touch.Touch.TheVariants.{Holds, Crosses, Misses}

@@ -1,6 +1,6 @@
 -- The whole heights next to a point.
 use Rattle.std.specs.Prelude.{◌*ℤ◌, ◌≤ℤ◌, ℤ, ◌↔◌}
-use Rattle.plane_exact.specs.Plane.{Point}
+use Rattle.plane_laws.specs.Plane.{Point}
 
 -- The floor is the greatest whole height that isn't above p, and the ceiling is the least that isn't below it.
 pub record IsLevel (p : Point) (floor ceiling : ℤ) : Type 0 where

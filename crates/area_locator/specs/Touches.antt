@@ -1,6 +1,6 @@
 -- What the edge between two neighbouring positions does to the ray to the right of a point.
 use Rattle.std.specs.Prelude.{Bool, true, false}
-use Rattle.plane_exact.specs.Plane.{Point}
+use Rattle.plane_laws.specs.Plane.{Point}
 use Rattle.plane_exact.specs.declared.point.Pt.{Pt}
 use Rattle.point_set.specs.Rings.{is_on_edge, crosses}
 use Rattle.area_locator.specs.declared.touch.Touch.{Touch}

@@ -9,11 +9,13 @@ use Rattle.std.proofs.lemmas.List.{take_more}
 use Rattle.std.proofs.lemmas.List.Kept.{AllPairs-cons, Any-dedup, Contains-from_dedup, IsStrictlySortedBy-dedup}
 use Rattle.std.proofs.lemmas.List.Sorted.{Contains-permutation, IsPermutation-sym}
 use Rattle.std.proofs.lemmas.List.Elements.{All-from_recursion, All-cons, All-nil, All-weaker, All-contains, All-contains_itself}
-use Rattle.plane_exact.proofs.AngleOrder.{joined_ways, compare_angles_total, same_compare_angles}
+use Rattle.plane_laws.proofs.Directions.Angles.{joined_ways}
+use Rattle.plane_exact.proofs.Laws.{compare_angles_total, same_compare_angles}
 use Rattle.plane_exact.specs.Orders.{compare_angles, IsSameDirection}
 use Rattle.plane_exact.specs.declared.dir.Dir.{Dir}
 use Rattle.fan_order.specs.declared.section.Section.{Section}
-use Rattle.fan_order.specs.Rays.{IsShort, IsLowest, IsRayOf, AreRaysOf}
+use Rattle.fan_order.specs.Rays.{IsShort, IsRayOf, AreRaysOf}
+use Rattle.point_set.specs.Sectors.{IsLowest}
 
 Any-here : {X : Type 0} (P : X → Type 0) (x : X) (xs : List X) → P x → Any P (x ∷ xs)
 Any-here P x xs h = (0, x, omega arith, refl, h)

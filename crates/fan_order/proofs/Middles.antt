@@ -3,19 +3,19 @@ use Rattle.std.proofs.Common.{◌≡◌, ℕ, ◌+◌, ◌%◌, ◌<◌, List, l
 use lib.Signed.{<ℤ_irrefl, <ℤ-≤ℤ_trans}
 use Rattle.whole_algebra.proofs.Laws.{linear}
 use Rattle.whole_algebra.proofs.Polynomials.{var, num, ◌⊕◌, ◌⊖◌, ◌⊗◌, minus, identity}
-use Rattle.whole_algebra.proofs.Computed.{Computes, read, product, sum, difference, stored}
+use Rattle.whole_algebra.proofs.Computed.{Computes, read, product, sum, difference, stored, narrow}
 use Rattle.std.proofs.lemmas.Int.{ints}
 use Rattle.std.proofs.lemmas.Option.{slice_get-get_or}
-use Rattle.plane_exact.proofs.Sizes.{narrow}
 use Rattle.plane_exact.specs.Limits.{spread}
 use Rattle.plane_exact.specs.Directions.{IsWay}
-use Rattle.fan_order.specs.Rays.{IsShort, sectors_of}
-use Rattle.plane_exact.proofs.AngleOrder.{no_bend}
-use Rattle.plane_exact.specs.Orders.{direction_of, bend_of}
+use Rattle.fan_order.specs.Rays.{IsShort}
+use Rattle.point_set.specs.Sectors.{sectors_of, IsMiddle, IsInSector}
+use Rattle.plane_laws.proofs.Directions.Angles.{no_bend}
+use Rattle.plane_exact.specs.Orders.{direction_of}
+use Rattle.plane_laws.specs.Directions.{bend_of, IsStrictlyWithin, IsMiddleBetween}
 use Rattle.plane_exact.specs.declared.dir.Dir.{Dir}
-use Rattle.point_set.specs.Sectors.{IsStrictlyWithin, IsMiddleBetween, IsMiddle, IsInSector}
 use Rattle.point_set.specs.Validity.{IsAtPlace}
-use Rattle.point_set.proofs.GermEdges.{squares}
+use Rattle.ring_laws.proofs.Germs.Edges.{squares}
 
 clash : {z : ℤ} → pos 0 <ℤ z → z ≤ℤ pos 0 → ⊥
 clash h k = <ℤ_irrefl (<ℤ-≤ℤ_trans h k)

@@ -8,8 +8,8 @@ use Rattle.std.proofs.Math.Nat.{eq-zero_of_zero-dvd, mul-le-mul_left}
 use Rattle.whole_algebra.proofs.Laws.{one-*ℤ}
 use Rattle.whole_algebra.proofs.Signs.{by_sign, <ℤ_apart, pos_nonzero}
 use Rattle.whole_algebra.proofs.Divisors.{exact_quotient}
-use Rattle.plane_exact.proofs.Reduced.{IsReduced-divided}
-use Rattle.plane_exact.proofs.Sizes.{narrow}
+use Rattle.plane_exact.proofs.Laws.{IsReduced-divided}
+use Rattle.whole_algebra.proofs.Computed.{narrow}
 use Rattle.plane_exact.specs.Limits.{farthest}
 use Rattle.plane_exact.specs.Directions.{IsWay}
 use Rattle.plane_exact.specs.declared.dir.Dir.{Dir}

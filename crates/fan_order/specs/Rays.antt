@@ -1,21 +1,17 @@
 -- Rays: directions in lowest terms, in the order of their angles.
-use Rattle.std.specs.Prelude.{◌≡◌, ℕ, ◌≤◌, unsigned_abs, List, [], ◌∷◌, length}
-use Prim.Native.Nat.{◌∣◌}
+use Rattle.std.specs.Prelude.{◌≡◌, ◌≤◌, unsigned_abs, List}
 use Rattle.std.specs.List.{All, AllPairs, Any}
 use Rattle.std.specs.declared.cmp.Ordering.TheVariants.{Less}
 use Rattle.plane_exact.specs.Limits.{spread}
 use Rattle.plane_exact.specs.Orders.{compare_angles, IsSameDirection}
 use Rattle.plane_exact.specs.declared.dir.Dir.{Dir}
 use Rattle.fan_order.specs.declared.section.Section.{Section}
+use Rattle.point_set.specs.Sectors.{IsLowest}
 
 -- Each part has a size of at most twice the limit on coordinates, as the differences of positions have.
 pub record IsShort (d : Dir) : Type 0 where
   pub across : unsigned_abs d.dx ≤ spread
   pub above : unsigned_abs d.dy ≤ spread
-
--- Lowest terms: only 1 divides both parts.
-pub record IsLowest (d : Dir) : Type 0 where
-  pub only : (n : ℕ) → n ∣ unsigned_abs d.dx → n ∣ unsigned_abs d.dy → n ≡ 1
 
 -- The ray of a direction points the same way, in lowest terms.
 pub record IsRayOf (d ray : Dir) : Type 0 where
@@ -27,8 +23,3 @@ pub record AreRaysOf (sections : List Section) (rays : List Dir) : Type 0 where
   pub ascending : AllPairs (λ d e. compare_angles d e ≡ Less) rays
   pub whole : All (λ s. Any (IsRayOf s.dir) rays) sections
   pub only : All (λ ray. Any (λ s. IsRayOf s.dir ray) sections) rays
-
--- How many sectors there are: one after each ray, and one where there is no ray.
-abbrev pub sectors_of : List Dir → ℕ
-sectors_of [] = 1
-sectors_of (ray ∷ rays) = length (ray ∷ rays)

@@ -2,8 +2,8 @@ ghost use Rattle.std.specs.Prelude.{◌≡◌, ◌<◌, ◌≤◌, ◌+◌, leng
 ghost use Rattle.std.specs.List.{AllPairs, AllZip, Any};
 ghost use Rattle.std.specs.declared.cmp.Ordering.TheVariants.{Less};
 ghost use Rattle.plane_exact.specs.Orders.{direction_of, compare_angles, IsSameDirection};
-ghost use Rattle.point_set.specs.Sectors.{IsMiddle, IsInSector};
-ghost use Rattle.fan_order.specs.Rays.{IsShort, IsRayOf, AreRaysOf, sectors_of};
+ghost use Rattle.point_set.specs.Sectors.{IsMiddle, IsInSector, sectors_of};
+ghost use Rattle.fan_order.specs.Rays.{IsShort, IsRayOf, AreRaysOf};
 
 use crate::lowest::lowest;
 use crate::middle::middle_between;

@@ -1,7 +1,7 @@
 ghost use Rattle.std.specs.Prelude.{◌≡◌, ◌+ℤ◌, neg_ℤ, pos, ◌<ℤ◌, IsTrue, ◌↔◌};
 ghost use Rattle.fan_order.specs.Rays.{IsShort};
-ghost use Rattle.plane_exact.specs.Orders.{direction_of, bend_of};
-ghost use Rattle.point_set.specs.Sectors.{IsMiddleBetween, IsStrictlyWithin};
+ghost use Rattle.plane_exact.specs.Orders.{direction_of};
+ghost use Rattle.plane_laws.specs.Directions.{bend_of, IsMiddleBetween, IsStrictlyWithin};
 
 use plane_exact::Dir;
 

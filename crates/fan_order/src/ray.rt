@@ -2,7 +2,7 @@ ghost use Rattle.std.specs.Cmp.{partial_equiv_from_equiv, eq_by_cmp_equiv, parti
 ghost use Rattle.std.specs.Ordering.{eq_by_cmp, as_partial_cmp};
 ghost use Rattle.std.specs.Prelude.{refl};
 ghost use Rattle.plane_exact.specs.Orders.{compare_angles};
-ghost use Rattle.plane_exact.proofs.AngleOrder.{compare_angles_total};
+ghost use Rattle.plane_exact.proofs.Laws.{compare_angles_total};
 
 use plane_exact::{Dir, cmp_turn};
 use std::cmp::Ordering;

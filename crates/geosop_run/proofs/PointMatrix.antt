@@ -8,10 +8,10 @@ use Rattle.whole_algebra.proofs.Laws.{*ℤ_one}
 use Rattle.im_matrix.specs.declared.Loc.{Loc}
 use Rattle.im_matrix.specs.declared.Loc.TheVariants.{Interior, Boundary, Exterior}
 use Rattle.im_matrix.specs.declared.Cell.{Cell}
-use Rattle.plane_exact.specs.Plane.{Point, IsSamePoint}
+use Rattle.plane_laws.specs.Plane.{Point, IsSamePoint}
 use Rattle.plane_exact.specs.Places.{point_of}
 use Rattle.plane_exact.specs.declared.point.Pt.{Pt}
-use Rattle.plane_exact.proofs.PlaneSame.{same_refl, Decides-is_same_point}
+use Rattle.plane_laws.proofs.Points.Same.{same_refl, Decides-is_same_point}
 use Rattle.point_set.specs.declared.figure.Figure.{Figure}
 use Rattle.point_set.specs.declared.rule.Rule.{Rule}
 use Rattle.point_set.specs.declared.dim_loc.DimLoc.{DimLoc}
@@ -21,8 +21,8 @@ use Rattle.point_set.specs.Lines.{is_at, is_at_some}
 use Rattle.point_set.specs.Location.{IsKind, IsLocation, part_of}
 use Rattle.point_set.specs.Dimension.{IsDimension, HoldsTriangle, HoldsSegment, HoldsPoint}
 use Rattle.point_set.specs.Relation.{IsInCell}
-use Rattle.point_set.proofs.FinitePoints.{finite-no-segment, finite-no-triangle, finite-avoided}
-use Rattle.point_set.proofs.SamePoint.{is_at_some-same}
+use Rattle.figure_laws.proofs.Sets.FinitePoints.{finite-no-segment, finite-no-triangle, finite-avoided}
+use Rattle.figure_laws.proofs.Points.Same.{is_at_some-same}
 use Rattle.geosop_run.specs.Points.{is_among, has_common, has_other, dimension_if, points_dimension}
 
 -- the figure that has these points and nothing else

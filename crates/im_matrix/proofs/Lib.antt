@@ -1,5 +1,6 @@
-pub mod Dimensions
-pub mod Matrices
-pub mod PatternTexts
-pub mod PatternFaults
-pub mod CellTests
+pub mod Laws
+mod CellTests
+mod Dimensions
+mod Matrices
+mod PatternFaults
+mod PatternTexts

@@ -1,19 +1,16 @@
 -- Boxes: what they hold, and their common points.
-use Rattle.std.proofs.Common.{negsuc, ◌-ℤ◌, ◌<ℤ◌}
+use Rattle.std.proofs.Common.{negsuc, ◌-ℤ◌, ◌<ℤ◌, ◌≡◌, ℤ, pos, ◌+ℤ◌, ◌*ℤ◌, ◌≤ℤ◌, [], ◌∷◌, refl, ap, arith}
 use Rattle.whole_algebra.proofs.Certificates.{at_most_by, at_most, same, scaled, positive, ◌⊞◌, ◌⊠◌}
-use Rattle.whole_algebra.proofs.Signs.{cancel_<ℤ_right, ≤ℤ-<ℤ_trans}
+use Rattle.whole_algebra.proofs.Signs.{cancel_<ℤ_right, ≤ℤ-<ℤ_trans, scale_≤ℤ, cancel_≤ℤ, cancel_≤ℤ_right, ≤ℤ_trans}
 use lib.Signed.{<ℤ-≤ℤ_trans}
 use Rattle.plane_exact.specs.Nodes.{IsRange}
-use Rattle.plane_exact.specs.Plane.{IsSamePoint}
-use Rattle.plane_exact.proofs.PlaneSame.{same_refl}
-use Rattle.std.proofs.Common.{◌≡◌, ℤ, pos, ◌+ℤ◌, ◌*ℤ◌, ◌<ℤ◌, ◌≤ℤ◌, [], ◌∷◌, refl, ap, arith}
+use Rattle.plane_laws.specs.Plane.{IsSamePoint, Point, IsOnSegment}
+use Rattle.plane_laws.proofs.Points.Same.{same_refl}
 use Rattle.std.proofs.lemmas.Int.{ints, clamps}
 use Rattle.std.specs.Int.{int_max, int_min}
 use Rattle.whole_algebra.proofs.Laws.{linear}
 use Rattle.whole_algebra.proofs.Polynomials.{var, num, ◌⊕◌, ◌⊗◌, identity}
-use Rattle.whole_algebra.proofs.Signs.{scale_≤ℤ, cancel_≤ℤ, cancel_≤ℤ_right, ≤ℤ_trans}
-use Rattle.plane_exact.proofs.PlaneMix.{start_on_segment, end_on_segment}
-use Rattle.plane_exact.specs.Plane.{Point, IsOnSegment}
+use Rattle.plane_laws.proofs.Segments.Mixes.{start_on_segment, end_on_segment}
 use Rattle.plane_exact.specs.Places.{point_of}
 use Rattle.plane_exact.specs.Windows.{IsInWindow, IsWithin, HasCommonPoint, IsLeastWindow}
 use Rattle.plane_exact.specs.declared.point.Pt.{Pt}

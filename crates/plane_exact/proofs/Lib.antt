@@ -1,19 +1,10 @@
-pub mod AlongOrder
-pub mod AngleOrder
-pub mod Lines
-pub mod NodeValues
-pub mod PlaneSame
-pub mod PlaneTurn
-pub mod PlaneMix
-pub mod Boxes
-pub mod Comparisons
-pub mod PointOrder
-pub mod Points
-pub mod Reduced
-pub mod Ranges
-pub mod SegmentBoxes
-pub mod Segments
-pub mod SignFacts
-pub mod Sizes
-pub mod TurnNumbers
-pub mod PlaneOn
+pub mod Laws
+mod Angles
+mod Boxes
+mod NodeValues
+mod Positions
+mod Ranges
+mod Reduced
+mod SegmentBoxes
+mod SignFacts
+mod Sizes

@@ -6,7 +6,7 @@ use Rattle.std.proofs.Math.Nat.{dvd-one}
 use Rattle.whole_algebra.proofs.Divisors.{Reduced, reduced_same}
 use Rattle.plane_exact.specs.Nodes.{IsFraction, IsReduced}
 use Rattle.plane_exact.specs.NodePoints.{point_at}
-use Rattle.plane_exact.specs.Plane.{IsSamePoint}
+use Rattle.plane_laws.specs.Plane.{IsSamePoint}
 use Rattle.plane_exact.specs.declared.node.Node.{Node}
 
 -- what a node says of its three numbers

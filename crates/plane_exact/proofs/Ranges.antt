@@ -3,12 +3,11 @@ use Rattle.std.proofs.Common.{◌≡◌, ◌<◌, ℤ, pos, ◌+ℤ◌, ◌-ℤ�
 use Rattle.std.proofs.lemmas.Int.{ints, quot-rem, rem_below, quot_is, quot_fits, rem_is}
 use Rattle.std.specs.Int.RustNames.{int_div, int_rem}
 use mir.Syntax.{w128}
-use Rattle.whole_algebra.proofs.Computed.{Computes}
+use Rattle.whole_algebra.proofs.Computed.{Computes, wide}
 use Rattle.whole_algebra.proofs.Laws.{linear, +ℤ-*ℤ, -ℤ-*ℤ, one-*ℤ}
 use Rattle.whole_algebra.proofs.Signs.{cancel_<ℤ_right}
 use Rattle.plane_exact.specs.Limits.{limit}
 use Rattle.plane_exact.specs.Nodes.{IsFraction, IsRange}
-use Rattle.plane_exact.proofs.Sizes.{wide}
 
 module _ (x w q r : ℤ) (hw : pos 0 <ℤ w) (division : q *ℤ w +ℤ r ≡ x) where
   pub range_below : r <ℤ pos 0 → neg_ℤ w <ℤ r → IsRange x w (q -ℤ pos 1) q

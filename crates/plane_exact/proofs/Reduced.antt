@@ -10,7 +10,7 @@ use Rattle.whole_algebra.proofs.Divisors.{exact_quotient}
 use Rattle.whole_algebra.proofs.Signs.{pos_factor, cancel_≤ℤ, scale_≤ℤ, <ℤ_weaken}
 use Rattle.plane_exact.specs.Limits.{limit, heaviest}
 use mir.Syntax.{w128}
-use Rattle.plane_exact.proofs.Sizes.{wide}
+use Rattle.whole_algebra.proofs.Computed.{wide}
 use Rattle.plane_exact.specs.Nodes.{IsFraction, IsReduced}
 use lib.IntN.{*ℤ_comm}
 

@@ -5,12 +5,13 @@ use Rattle.std.proofs.lemmas.Int.{ints, clamps}
 use Rattle.whole_algebra.proofs.Laws.{linear, one-*ℤ}
 use Rattle.whole_algebra.proofs.Polynomials.{var, num, ◌⊕◌, ◌⊗◌, identity}
 use Rattle.whole_algebra.proofs.Signs.{by_order, scale_≤ℤ_right, ≤ℤ_trans, <ℤ_weaken}
-use Rattle.plane_exact.specs.Plane.{Point, IsOnSegment, turn}
+use Rattle.plane_laws.specs.Plane.{Point, IsOnSegment, turn}
 use Rattle.plane_exact.specs.Places.{point_of}
 use Rattle.plane_exact.specs.declared.point.Pt.{Pt}
-use Rattle.plane_exact.proofs.PlaneMix.{segment_flip}
-use Rattle.plane_exact.proofs.PlaneTurn.{turn_swap}
-use Rattle.plane_exact.proofs.Segments.{on_segment_by_shift, on_segment_by_rise, shift-position, shift-to_position, shift-positions, rise-position, rise-to_position, rise-positions}
+use Rattle.plane_laws.proofs.Segments.Mixes.{segment_flip}
+use Rattle.plane_laws.proofs.Turns.Turns.{turn_swap}
+use Rattle.plane_laws.proofs.Segments.Onto.{on_segment_by_shift, on_segment_by_rise}
+use Rattle.plane_exact.proofs.Positions.{shift-position, shift-to_position, shift-positions, rise-position, rise-to_position, rise-positions}
 
 -- between two coordinates, by the lesser and the greater
 between : (m n x w : ℤ) → pos 0 <ℤ w → m ≤ℤ n → (int_min m n *ℤ w) ≤ℤ x → x ≤ℤ (int_max m n *ℤ w) → ((m *ℤ w) ≤ℤ x) × (x ≤ℤ (n *ℤ w))

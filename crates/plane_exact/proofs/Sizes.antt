@@ -1,5 +1,5 @@
 -- Sizes of numbers, from the limit on coordinates: what `Computed` is told of parameters.
-use Rattle.std.proofs.Common.{ℕ, ◌≡◌, ◌≤◌, ℤ, ◌-ℤ◌, ◌*ℤ◌, unsigned_abs, to_z, of_z, w64, refl, ◌∙◌, arith}
+use Rattle.std.proofs.Common.{◌≡◌, ◌≤◌, ℤ, ◌-ℤ◌, ◌*ℤ◌, unsigned_abs, w64, refl, arith}
 use Rattle.std.proofs.lemmas.Int.{ints}
 use mir.Syntax.{w128}
 use Rattle.whole_algebra.proofs.Computed.{Computes, read, difference, product, stored}
@@ -8,20 +8,13 @@ use Rattle.plane_exact.specs.Directions.{IsWay}
 use Rattle.plane_exact.specs.Nodes.{IsFraction}
 use Rattle.plane_exact.specs.Places.{IsInLimit}
 use Rattle.plane_exact.specs.declared.point.Pt.{Pt}
-
--- a number of 64 bits, as goals show it
-abbrev pub narrow : ℤ → ℤ
-narrow z = to_z w64 (of_z w64 z)
+use Rattle.whole_algebra.proofs.Computed.{narrow, wide}
 
 pub abscissa_size : (p : Pt) → IsInLimit p → unsigned_abs p.x ≤ limit
 abscissa_size p h = omega (arith, ints, h.left, h.right)
 
 pub height_size : (p : Pt) → IsInLimit p → unsigned_abs p.y ≤ limit
 height_size p h = omega (arith, ints, h.bottom, h.top)
-
--- a term that is equal to one that is known
-pub via : {t s z : ℤ} {m : ℕ} → t ≡ s → Computes s z m → Computes t z m
-via e d = record { is = e ∙ d.is; small = d.small }
 
 -- the difference of two coordinates
 pub step : (x y : ℤ) → unsigned_abs x ≤ limit → unsigned_abs y ≤ limit → Computes (narrow y -ℤ narrow x) (y -ℤ x) spread
@@ -37,10 +30,6 @@ upward a b h k = stored w64 (step a.y b.y (height_size a h) (height_size b k)) r
 -- the cross product of two ways from one position
 pub turned : (a b c : Pt) → IsInLimit a → IsInLimit b → IsInLimit c → Computes (narrow (narrow b.x -ℤ narrow a.x) *ℤ narrow (narrow c.y -ℤ narrow a.y) -ℤ narrow (narrow b.y -ℤ narrow a.y) *ℤ narrow (narrow c.x -ℤ narrow a.x)) ((b.x -ℤ a.x) *ℤ (c.y -ℤ a.y) -ℤ (b.y -ℤ a.y) *ℤ (c.x -ℤ a.x)) widest
 turned a b c h k l = difference (product (across a b h k) (upward a c h l)) (product (upward a b h k) (across a c h l))
-
--- a number of 128 bits, as goals show it
-abbrev pub wide : ℤ → ℤ
-wide z = to_z w128 (of_z w128 z)
 
 -- the numbers of a fraction
 pub numerator_size : (x w : ℤ) → IsFraction x w → unsigned_abs x ≤ largest

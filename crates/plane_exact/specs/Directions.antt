@@ -1,4 +1,4 @@
--- Directions: ways of whole numbers that aren't zero.
+-- The bounds of a direction of the code.
 use Rattle.std.specs.Prelude.{◌≡◌, ℤ, pos, negsuc, ◌≤ℤ◌}
 
 -- Not both parts are 0, and each has a size of at most 8,388,608.
@@ -8,9 +8,3 @@ pub record IsWay (dx dy : ℤ) : Type 0 where
   pub bottom : negsuc 8388607 ≤ℤ dy
   pub top : dy ≤ℤ pos 8388608
   pub turned : ¬ ((dx ≡ pos 0) × (dy ≡ pos 0))
-
--- A direction: two whole numbers of any size, not both 0.
-pub record Direction : Type 0 where
-  pub x : ℤ
-  pub y : ℤ
-  pub moves : ¬ ((x ≡ pos 0) × (y ≡ pos 0))

@@ -1,4 +1,4 @@
-pub mod Plane
+pub use Rattle.plane_laws.specs.Plane
 pub mod Limits
 pub mod Places
 pub mod Signs

@@ -1,5 +1,5 @@
 -- Nodes as points of the plane.
-use Rattle.plane_exact.specs.Plane.{Point}
+use Rattle.plane_laws.specs.Plane.{Point}
 use Rattle.plane_exact.specs.declared.node.Node.{Node}
 
 -- The point that a node stands for.

@@ -2,7 +2,6 @@
 use Rattle.std.specs.Prelude.{◌≡◌, ℕ, ℤ, pos, ◌+ℤ◌, ◌-ℤ◌, ◌*ℤ◌, neg_ℤ, ◌<ℤ◌, ◌≤ℤ◌, unsigned_abs}
 use Prim.Native.Nat.{◌∣◌}
 use Rattle.plane_exact.specs.Limits.{limit, heaviest}
-use Rattle.plane_exact.specs.Plane.{Point}
 
 -- The fraction x/w: w is positive and below 2^44, and the fraction has a size of at most the limit.
 pub record IsFraction (x w : ℤ) : Type 0 where
@@ -14,11 +13,6 @@ pub record IsFraction (x w : ℤ) : Type 0 where
 -- Only 1 divides all three numbers.
 pub record IsReduced (x y w : ℤ) : Type 0 where
   pub only : (d : ℕ) → d ∣ unsigned_abs x → d ∣ unsigned_abs y → d ∣ unsigned_abs w → d ≡ 1
-
--- The point p is (x/w, y/w).
-pub record IsAt (p : Point) (x y w : ℤ) : Type 0 where
-  pub across : p.x *ℤ w ≡ x *ℤ p.w
-  pub above : p.y *ℤ w ≡ y *ℤ p.w
 
 -- The whole numbers low and high are the nearest ones round the fraction x/w: itself twice, or the two next to it.
 pub record IsRange (x w low high : ℤ) : Type 0 where

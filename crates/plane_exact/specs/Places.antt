@@ -1,7 +1,7 @@
 -- Positions with whole-number coordinates, as points of the plane.
 use Rattle.std.specs.Prelude.{pos, negsuc, ◌≤ℤ◌}
 use lib.Signed.{lt_z_yes}
-use Rattle.plane_exact.specs.Plane.{Point}
+use Rattle.plane_laws.specs.Plane.{Point}
 use Rattle.plane_exact.specs.declared.point.Pt.{Pt}
 
 -- The point at a position: its weight is 1.

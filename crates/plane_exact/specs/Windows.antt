@@ -1,6 +1,6 @@
 -- Closed boxes of the plane.
 use Rattle.std.specs.Prelude.{◌*ℤ◌, ◌≤ℤ◌}
-use Rattle.plane_exact.specs.Plane.{Point}
+use Rattle.plane_laws.specs.Plane.{Point}
 use Rattle.plane_exact.specs.declared.point.Pt.{Pt}
 use Rattle.plane_exact.specs.declared.window.Window.{Window}
 

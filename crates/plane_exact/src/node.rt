@@ -16,7 +16,8 @@ pub struct Node {
 
 impl Node {
     ghost use Rattle.std.specs.Prelude.{◌≡◌, IfSome, IfNone};
-    ghost use Rattle.plane_exact.specs.Nodes.{IsFraction, IsAt};
+    ghost use Rattle.plane_exact.specs.Nodes.{IsFraction};
+    ghost use Rattle.plane_laws.specs.Plane.{IsAt};
     ghost use Rattle.plane_exact.specs.NodePoints.{point_at};
     ghost use Rattle.plane_exact.specs.Places.{IsInLimit, point_of};
 

@@ -2,9 +2,11 @@ ghost use Rattle.std.specs.Prelude.{◌≡◌, ◌≤◌, ◌↔◌, pos, unsign
 ghost use Rattle.plane_exact.specs.Limits.{limit};
 ghost use Rattle.plane_exact.specs.NodePoints.{point_at};
 ghost use Rattle.plane_exact.specs.Nodes.{IsFraction};
-ghost use Rattle.plane_exact.specs.Orders.{compare_fractions, compare_points, compare_along, compare_angles, past_half, IsBefore, IsSameDirection};
+ghost use Rattle.plane_laws.specs.Orders.{compare_fractions, compare_points, compare_along, IsBefore};
+ghost use Rattle.plane_exact.specs.Orders.{compare_angles, IsSameDirection};
+ghost use Rattle.plane_laws.specs.Directions.{past_half};
 ghost use Rattle.plane_exact.specs.Places.{IsInLimit, point_of};
-ghost use Rattle.plane_exact.specs.Plane.{IsOnSegment};
+ghost use Rattle.plane_laws.specs.Plane.{IsOnSegment};
 
 use crate::dir::Dir;
 use crate::node::Node;

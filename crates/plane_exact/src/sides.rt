@@ -3,7 +3,7 @@ ghost use Rattle.plane_exact.specs.Limits.{limit, longest};
 ghost use Rattle.plane_exact.specs.NodePoints.{point_at};
 ghost use Rattle.plane_exact.specs.Nodes.{IsFraction};
 ghost use Rattle.plane_exact.specs.Places.{IsInLimit, point_of};
-ghost use Rattle.plane_exact.specs.Plane.{IsOnSegment, turn};
+ghost use Rattle.plane_laws.specs.Plane.{IsOnSegment, turn};
 ghost use Rattle.plane_exact.specs.Signs.{sign_of};
 ghost use Rattle.plane_exact.specs.Windows.{IsInWindow, low_corner, high_corner};
 

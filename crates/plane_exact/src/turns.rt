@@ -1,7 +1,7 @@
 ghost use Rattle.std.specs.Prelude.{◌≡◌, ◌≤◌, ◌-ℤ◌, ◌*ℤ◌, unsigned_abs};
 ghost use Rattle.plane_exact.specs.Limits.{farthest, widest};
 ghost use Rattle.plane_exact.specs.Places.{IsInLimit, point_of};
-ghost use Rattle.plane_exact.specs.Plane.{turn};
+ghost use Rattle.plane_laws.specs.Plane.{turn};
 ghost use Rattle.plane_exact.specs.Signs.{sign_of};
 
 use crate::point::Pt;

@@ -21,7 +21,7 @@ pub struct Window {
 impl Window {
     ghost use Rattle.plane_exact.specs.Places.{point_of};
     ghost use Rattle.plane_exact.specs.NodePoints.{point_at};
-    ghost use Rattle.plane_exact.specs.Plane.{IsOnSegment, IsSamePoint};
+    ghost use Rattle.plane_laws.specs.Plane.{IsOnSegment, IsSamePoint};
     ghost use Rattle.plane_exact.specs.Windows.{HasCommonPoint, IsLeastWindow};
 
     /// The least whole box that holds a segment.

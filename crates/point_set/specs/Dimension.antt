@@ -2,7 +2,7 @@
 use Rattle.std.specs.Prelude.{◌≡◌, pos}
 use Rattle.im_matrix.specs.declared.Dim.{Dim}
 use Rattle.im_matrix.specs.declared.Dim.TheVariants.{Empty, Zero, One, Two}
-use Rattle.plane_exact.specs.Plane.{Point, IsSamePoint, IsOnSegment, IsInTriangle, turn}
+use Rattle.plane_laws.specs.Plane.{Point, IsSamePoint, IsOnSegment, IsInTriangle, turn}
 
 -- A triangle with corners not on one line has all its points in the set.
 pub record HoldsTriangle (Set : Point → Type 0) : Type 0 where

@@ -4,9 +4,9 @@ use Rattle.std.specs.List.{All}
 use Rattle.std.specs.List.Sorted.{IsStrictlyIncreasing}
 use Rattle.im_matrix.specs.declared.Loc.TheVariants.{Interior, Exterior}
 use Rattle.plane_exact.specs.Places.{point_of}
-use Rattle.plane_exact.specs.Plane.{Point, IsStrictlyBetween}
+use Rattle.plane_laws.specs.Plane.{Point, IsStrictlyBetween}
 use Rattle.plane_exact.specs.Windows.{IsLeastWindow, HasCommonPoint}
-use Rattle.plane_exact.specs.Directions.{Direction}
+use Rattle.plane_laws.specs.Directions.{Direction}
 use Rattle.plane_exact.specs.declared.point.Pt.{Pt}
 use Rattle.plane_exact.specs.declared.point.Seg.{Seg}
 use Rattle.plane_exact.specs.declared.window.Window.{Window}

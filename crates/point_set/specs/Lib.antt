@@ -1,4 +1,4 @@
-pub use Rattle.plane_exact.specs.Plane
+pub use Rattle.plane_laws.specs.Plane
 pub use Rattle.plane_exact.specs.Places
 pub use Rattle.im_matrix.specs.Cells
 pub mod Rings

@@ -1,7 +1,7 @@
 -- Lines and their ends, and the four boundary node rules. The rule mod2 is that of OGC 06-103r4, 6.1.8.
 use Rattle.std.specs.Prelude.{ℕ, ◌+◌, ◌%◌, Bool, true, ◌&&◌, List, [], ◌∷◌, ◌++◌, ◌==◌, nat_le, if◌then◌else◌}
 use Rattle.std.specs.List.{list_any, list_all}
-use Rattle.plane_exact.specs.Plane.{Point, is_same_point}
+use Rattle.plane_laws.specs.Plane.{Point, is_same_point}
 use Rattle.plane_exact.specs.Places.{point_of}
 use Rattle.plane_exact.specs.declared.point.Pt.{Pt}
 use Rattle.point_set.specs.declared.rule.Rule.{Rule}

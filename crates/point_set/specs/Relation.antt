@@ -3,7 +3,7 @@
 use Rattle.im_matrix.specs.Cells.{dimension_at}
 use Rattle.im_matrix.specs.declared.Cell.{Cell}
 use Rattle.im_matrix.specs.declared.Matrix.{Matrix}
-use Rattle.plane_exact.specs.Plane.{Point}
+use Rattle.plane_laws.specs.Plane.{Point}
 use Rattle.point_set.specs.declared.figure.Figure.{Figure}
 use Rattle.point_set.specs.declared.rule.Rule.{Rule}
 use Rattle.point_set.specs.Location.{IsLocation}

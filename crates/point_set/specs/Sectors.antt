@@ -1,29 +1,19 @@
 -- The sectors between neighbouring directions, a sector's middle, and the sectors that are free of an area's edges.
-use Rattle.std.specs.Prelude.{◌≡◌, true, ℕ, ◌+◌, ◌%◌, pos, ◌+ℤ◌, neg_ℤ, ◌<ℤ◌, ◌≤ℤ◌, ◌⊎◌, List, [], ◌∷◌, length}
+use Rattle.std.specs.Prelude.{◌≡◌, true, ℕ, ◌+◌, ◌%◌, pos, ◌⊎◌, List, [], ◌∷◌, length, unsigned_abs}
+use Prim.Native.Nat.{◌∣◌}
 use Rattle.std.specs.List.{AllPairs, Any}
 use Rattle.std.specs.declared.cmp.Ordering.TheVariants.{Less}
-use Rattle.plane_exact.specs.Plane.{Point}
+use Rattle.plane_laws.specs.Plane.{Point}
 use Rattle.plane_exact.specs.Places.{point_of}
-use Rattle.plane_exact.specs.Directions.{Direction}
-use Rattle.plane_exact.specs.Orders.{direction_of, bend_of, compare_angles, PointSameWay}
+use Rattle.plane_laws.specs.Directions.{Direction, PointSameWay, IsStrictlyWithin, IsMiddleBetween}
+use Rattle.plane_exact.specs.Orders.{direction_of, compare_angles}
 use Rattle.plane_exact.specs.declared.dir.Dir.{Dir}
 use Rattle.plane_exact.specs.declared.point.Seg.{Seg}
 use Rattle.point_set.specs.declared.figure.Area.{Area}
 use Rattle.point_set.specs.Rings.{is_on_edge}
 use Rattle.point_set.specs.Location.{rings_of, edges_of_rings}
-use Rattle.point_set.specs.Germ.{IsInCone}
+use Rattle.plane_laws.specs.Along.{IsInCone}
 use Rattle.point_set.specs.Validity.{IsAtPlace}
-
--- d lies strictly between r and s, counter-clockwise after r and before s.
---   Where s is to the left of r, d is to the left of r and s is to the left of d.
---   Where s is to the right of r, d is anywhere but from s to r: to the left of r, or s is to the left of d.
---   Where s is opposite to r, d is to the left of r.
---   Where s points the same way as r, the sector is the whole turn, and d points another way.
-pub record IsStrictlyWithin (r s d : Direction) : Type 0 where
-  pub left : pos 0 <ℤ bend_of r s → (pos 0 <ℤ bend_of r d) × (pos 0 <ℤ bend_of d s)
-  pub right : bend_of r s <ℤ pos 0 → (pos 0 <ℤ bend_of r d) ⊎ (pos 0 <ℤ bend_of d s)
-  pub opposite : bend_of r s ≡ pos 0 → ¬ PointSameWay r s → pos 0 <ℤ bend_of r d
-  pub same : PointSameWay r s → ¬ PointSameWay r d
 
 -- No edge of the area runs from v strictly between r and s, counter-clockwise: of the edges that v is on, none has an end
 -- that lies from v along a direction strictly within.
@@ -39,11 +29,6 @@ pub record AreRaysAt (v : Point) (edges : List Seg) (rays : List Dir) : Type 0 w
   pub whole :
       (place : ℕ) (f : Seg) → IsAtPlace edges place f → is_on_edge v f ≡ true → (t : Direction)
       → IsInCone v t t (point_of f.a) ⊎ IsInCone v t t (point_of f.b) → Any (λ ray. PointSameWay t (direction_of ray)) rays
-
--- The middle of the sector from r to s: the sum of the two where s is to the left of r, else r turned left by a quarter.
-pub record IsMiddleBetween (r s m : Direction) : Type 0 where
-  pub sum : pos 0 <ℤ bend_of r s → (m.x ≡ r.x +ℤ s.x) × (m.y ≡ r.y +ℤ s.y)
-  pub quarter : bend_of r s ≤ℤ pos 0 → (m.x ≡ neg_ℤ r.y) × (m.y ≡ r.x)
 
 -- Something holds of the direction at place i of a list in order of angles, and of its neighbour counter-clockwise: the next
 -- in the list, and after the last one the first.
@@ -63,3 +48,12 @@ IsInSector (ray ∷ rays) i d = OfNeighbours (λ r s. IsStrictlyWithin r s d) (r
 abbrev pub IsMiddle : List Dir → ℕ → Direction → Type 0
 IsMiddle [] i m = (m.x ≡ pos 1) × (m.y ≡ pos 0)
 IsMiddle (ray ∷ rays) i m = OfNeighbours (λ r s. IsMiddleBetween r s m) (ray ∷ rays) i
+
+-- How many sectors there are: one after each ray, and one where there is no ray.
+abbrev pub sectors_of : List Dir → ℕ
+sectors_of [] = 1
+sectors_of (ray ∷ rays) = length (ray ∷ rays)
+
+-- Lowest terms: only 1 divides both parts.
+pub record IsLowest (d : Dir) : Type 0 where
+  pub only : (n : ℕ) → n ∣ unsigned_abs d.dx → n ∣ unsigned_abs d.dy → n ≡ 1

@@ -1,15 +1,15 @@
 -- The side of a ring's edges on which its inside lies.
 use Rattle.std.specs.Prelude.{◌≡◌, ℕ, ℤ, pos, ◌-ℤ◌, ◌*ℤ◌, ◌<ℤ◌, true, false, List}
-use Rattle.plane_exact.specs.Plane.{Point, IsStrictlyBetween}
+use Rattle.plane_laws.specs.Plane.{Point, IsStrictlyBetween}
 use Rattle.plane_exact.specs.Places.{point_of}
-use Rattle.plane_exact.specs.Directions.{Direction}
+use Rattle.plane_laws.specs.Directions.{Direction}
 use Rattle.plane_exact.specs.declared.point.Pt.{Pt}
 use Rattle.plane_exact.specs.declared.point.Seg.{Seg}
 use Rattle.point_set.specs.declared.edge.Hand.{Hand}
 use Rattle.point_set.specs.declared.edge.Hand.TheVariants as hand
 use Rattle.point_set.specs.Rings.{edges_of, is_inside}
 use Rattle.point_set.specs.Validity.{IsAtPlace}
-use Rattle.point_set.specs.Germ.{HoldsAlong}
+use Rattle.plane_laws.specs.Along.{HoldsAlong}
 
 -- The cross product of an edge's way and a direction: positive where the direction points to the left of the edge.
 abbrev pub slope : Seg → Direction → ℤ

@@ -3,7 +3,7 @@
 use Rattle.std.specs.Prelude.{◌≡◌, ℕ, ◌+◌, ◌<◌, ◌⊎◌, ◌≢◌, true, false, List, [], ◌∷◌, length, Some, slice_get}
 use Rattle.std.specs.List.{All}
 use Rattle.im_matrix.specs.declared.Loc.TheVariants.{Interior}
-use Rattle.plane_exact.specs.Plane.{Point, IsSamePoint, IsOnSegment}
+use Rattle.plane_laws.specs.Plane.{Point, IsSamePoint, IsOnSegment}
 use Rattle.plane_exact.specs.Places.{point_of}
 use Rattle.plane_exact.specs.declared.point.Pt.{Pt}
 use Rattle.plane_exact.specs.declared.point.Seg.{Seg}

@@ -1,14 +1,14 @@
 -- The count of crossings along a way, one position on.
 use Rattle.std.proofs.Common.{◌≡◌, ℕ, ◌+◌, ◌<◌, Bool, true, false, not, List, ◌∷◌, length, drop, get_or, ap, refl, sym, ◌∙◌, subst, add-one}
 use Rattle.std.proofs.Math.Seq.{drop-cons}
-use Rattle.plane_exact.specs.Plane.{Point, turn}
+use Rattle.plane_laws.specs.Plane.{Point, turn}
 use Rattle.plane_exact.specs.Places.{point_of}
 use Rattle.plane_exact.specs.declared.point.Pt.{Pt}
 use Rattle.plane_exact.specs.declared.point.Seg.{Seg}
 use Rattle.point_set.specs.Rings.{is_same_position, edge_before, edges_after, is_low, crosses, differ, is_odd}
-use Rattle.point_set.proofs.ParityTests.{differ_assoc}
-use Rattle.point_set.proofs.ParityRing.{same_position}
-use Rattle.point_set.proofs.SidesRay.{crosses_level}
+use Rattle.ring_laws.proofs.Parity.Tests.{differ_assoc}
+use Rattle.ring_laws.proofs.Parity.Ring.{same_position}
+use Rattle.side_laws.proofs.Rings.Ray.{crosses_level}
 
 no_crossing : (m : Point) (p : Pt) → crosses m (record { a = p; b = p }) ≡ false
 no_crossing m p = crosses_level (is_low m (point_of p)) (is_low m (point_of p)) (turn (point_of p) (point_of p) m) refl

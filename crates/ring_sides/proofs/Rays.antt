@@ -9,10 +9,10 @@ use lib.IntN.{*ℤ-zero}
 use Rattle.whole_algebra.proofs.Laws.{linear, *ℤ_one}
 use Rattle.whole_algebra.proofs.Polynomials.{var, num, ◌⊕◌, ◌⊗◌, identity}
 use Rattle.whole_algebra.proofs.Signs.{by_order}
-use Rattle.plane_exact.proofs.PlaneTurn.{PolyPoint, turn_poly}
-use Rattle.plane_exact.specs.Plane.{IsSamePoint, IsStrictlyBetween, turn}
+use Rattle.plane_laws.proofs.Turns.Turns.{PolyPoint, turn_poly}
+use Rattle.plane_laws.specs.Plane.{IsSamePoint, IsStrictlyBetween, turn}
 use Rattle.plane_exact.specs.Places.{point_of}
-use Rattle.plane_exact.specs.Directions.{Direction}
+use Rattle.plane_laws.specs.Directions.{Direction}
 use Rattle.plane_exact.specs.declared.point.Pt.{Pt}
 use Rattle.plane_exact.specs.declared.point.Seg.{Seg}
 use Rattle.point_set.specs.declared.edge.Hand.TheVariants as hand
@@ -20,14 +20,14 @@ use Rattle.point_set.specs.Rings.{edges_of, is_low, is_odd}
 use Rattle.point_set.specs.Shape.{IsClosed}
 use Rattle.point_set.specs.Validity.{IsAtPlace, CrossesItself}
 use Rattle.point_set.specs.Sides.{slope, IsInsideHand}
-use Rattle.point_set.proofs.ParityTests.{tells_lt, tells_le, same_tests}
-use Rattle.point_set.proofs.ParityFlip.{HasSign, crossing_of}
-use Rattle.point_set.proofs.ParityRing.{some_same}
-use Rattle.point_set.proofs.SidesRing.{ring_is_simple}
-use Rattle.point_set.proofs.SidesBeside.{by_hand, beside_at}
-use Rattle.point_set.proofs.SidesJoint.{IsBesideAll, beside_all}
-use Rattle.point_set.proofs.SidesAll.{hand_by, inside_hand, all_from_first}
-use Rattle.point_set.proofs.SidesRay.{IsRay, ray_counts}
+use Rattle.ring_laws.proofs.Parity.Tests.{tells_lt, tells_le, same_tests}
+use Rattle.ring_laws.proofs.Parity.Flip.{HasSign, crossing_of}
+use Rattle.ring_laws.proofs.Parity.Ring.{some_same}
+use Rattle.side_laws.proofs.Edges.Places.{ring_is_simple}
+use Rattle.side_laws.proofs.Edges.Beside.{by_hand, beside_at}
+use Rattle.side_laws.proofs.Rings.Joint.{IsBesideAll, beside_all}
+use Rattle.side_laws.proofs.Rings.Hand.{hand_by, inside_hand, all_from_first}
+use Rattle.side_laws.proofs.Rings.Ray.{IsRay, ray_counts}
 use Rattle.ring_sides.specs.Middles.{middle_of, is_ray_left}
 
 -- ---- the middle is strictly between the ends

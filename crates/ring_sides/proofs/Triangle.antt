@@ -6,11 +6,11 @@ use lib.IntN.{zero-*ℤ, *ℤ_comm}
 use Rattle.whole_algebra.proofs.Polynomials.{var, num, ◌⊕◌, ◌⊖◌, ◌⊗◌}
 use Rattle.whole_algebra.proofs.Certificates.{same, same_from, scaled, ◌⊞◌}
 use Rattle.whole_algebra.proofs.Signs.{zero_factor, pos_nonzero}
-use Rattle.plane_exact.proofs.TurnNumbers.{turn-positions}
-use Rattle.plane_exact.proofs.PlaneTurn.{point_at, turn_poly, ◌then◌, turn_cycle, turn_twice}
-use Rattle.plane_exact.proofs.PlaneOn.{mix_turn, mix_shift_end, mix_rise_end, same_from_steps}
-use Rattle.plane_exact.proofs.PlaneSame.{same_sym}
-use Rattle.plane_exact.specs.Plane.{Point, IsSamePoint, IsMix, IsOnSegment, turn, shift, rise}
+use Rattle.plane_exact.proofs.Laws.{turn-positions}
+use Rattle.plane_laws.proofs.Turns.Turns.{point_at, turn_poly, ◌then◌, turn_cycle, turn_twice}
+use Rattle.plane_laws.proofs.Segments.On.{mix_turn, mix_shift_end, mix_rise_end, same_from_steps}
+use Rattle.plane_laws.proofs.Points.Same.{same_sym}
+use Rattle.plane_laws.specs.Plane.{Point, IsSamePoint, IsMix, IsOnSegment, turn, shift, rise}
 use Rattle.plane_exact.specs.Places.{point_of}
 use Rattle.plane_exact.specs.declared.point.Pt.{Pt}
 use Rattle.plane_exact.specs.declared.point.Seg.{Seg}
@@ -19,7 +19,7 @@ use Rattle.point_set.specs.declared.figure.Figure.{Figure}
 use Rattle.point_set.specs.Rings.{is_same_position, edge_before, edges_of}
 use Rattle.point_set.specs.Location.{rings_of}
 use Rattle.point_set.specs.Validity.{IsAtPlace, IsOnEdge, IsJoint, HasTooFewPoints, CrossesItself, SomeRing, SomeArea, SomeEarlier, RingsShareSegment, HasHoleOutside, HasHolesThatOverlap, Touch, HasTouchCycle, AreasShareSegment, AreasOverlap, too_few_points, ring_cross, rings_share_edge, hole_outside, holes_overlap, disconnected, elements_share_edge, elements_overlap, IsValid}
-use Rattle.point_set.proofs.ParityRing.{same_position, some_same}
+use Rattle.ring_laws.proofs.Parity.Ring.{same_position, some_same}
 
 -- ---- two sides of a triangle have only their corner in common
 pub record AreCorners (a b c : Pt) : Type 0 where

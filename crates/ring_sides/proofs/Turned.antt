@@ -8,21 +8,21 @@ use Rattle.std.proofs.lemmas.List.{reverse-append, append_assoc}
 use Rattle.std.proofs.lemmas.List.Folds.{list_any-append}
 use Rattle.whole_algebra.proofs.Laws.{linear}
 use Rattle.whole_algebra.proofs.Polynomials.{var, ◌⊖◌, ◌⊗◌, minus, identity}
-use Rattle.plane_exact.proofs.PlaneMix.{segment_flip}
-use Rattle.plane_exact.proofs.PlaneOn.{Decides-is_on_segment}
-use Rattle.plane_exact.specs.Plane.{Point}
+use Rattle.plane_laws.proofs.Segments.Mixes.{segment_flip}
+use Rattle.plane_laws.proofs.Segments.On.{Decides-is_on_segment}
+use Rattle.plane_laws.specs.Plane.{Point}
 use Rattle.plane_exact.specs.Places.{point_of}
-use Rattle.plane_exact.specs.Directions.{Direction}
+use Rattle.plane_laws.specs.Directions.{Direction}
 use Rattle.plane_exact.specs.declared.point.Pt.{Pt}
 use Rattle.plane_exact.specs.declared.point.Seg.{Seg}
 use Rattle.point_set.specs.declared.edge.Hand.TheVariants as hand
 use Rattle.point_set.specs.Rings.{is_same_position, edge_before, edges_after, edges_of, is_on_edge, is_on_edges, crosses, differ, is_odd, is_inside}
 use Rattle.point_set.specs.Validity.{IsAtPlace}
 use Rattle.point_set.specs.Sides.{slope, HoldsBeside, IsInsideHand}
-use Rattle.point_set.proofs.Parity.{crosses_swap}
-use Rattle.point_set.proofs.ParityTests.{differ_assoc, differ_comm, differ_none}
-use Rattle.point_set.proofs.ParityRing.{some_same}
-use Rattle.point_set.proofs.SidesJoint.{between_flip}
+use Rattle.ring_laws.proofs.Parity.OneEdge.{crosses_swap}
+use Rattle.ring_laws.proofs.Parity.Tests.{differ_assoc, differ_comm, differ_none}
+use Rattle.ring_laws.proofs.Parity.Ring.{some_same}
+use Rattle.side_laws.proofs.Rings.Joint.{between_flip}
 use Rattle.ring_sides.proofs.Counting.{odd_before}
 
 -- ---- the last edge of a way

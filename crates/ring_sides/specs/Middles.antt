@@ -2,7 +2,7 @@
 use Rattle.std.specs.Prelude.{pos, ◌+ℤ◌, Bool, ◌&&◌, ◌||◌, int_lt}
 use Rattle.std.specs.Ordering.{int_eq}
 use lib.Signed.{lt_z_yes}
-use Rattle.plane_exact.specs.Plane.{Point}
+use Rattle.plane_laws.specs.Plane.{Point}
 use Rattle.plane_exact.specs.declared.point.Seg.{Seg}
 
 -- The point halfway between an edge's ends.

@@ -1,6 +1,6 @@
 ghost use Rattle.std.specs.Prelude.{◌≡◌};
 ghost use Rattle.plane_exact.specs.Places.{IsInLimit, point_of};
-ghost use Rattle.plane_exact.specs.Plane.{turn};
+ghost use Rattle.plane_laws.specs.Plane.{turn};
 ghost use Rattle.point_set.specs.Rings.{is_low, crosses, edges_after, is_odd};
 ghost use Rattle.point_set.specs.Shape.{IsWayInLimit};
 ghost use Rattle.ring_sides.specs.Middles.{middle_of, is_ray_left as is_left};

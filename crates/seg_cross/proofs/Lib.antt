@@ -1,4 +1,3 @@
-pub mod Crossings
 pub mod Means
 pub mod Overlaps
 pub mod Meetings

@@ -2,13 +2,12 @@
 use Rattle.std.proofs.Common.{ℕ, ◌+◌, ◌^◌, ltb, true, ◌≡◌, ◌≤◌, ℤ, pos, ◌+ℤ◌, ◌-ℤ◌, ◌*ℤ◌, ◌<ℤ◌, ◌≤ℤ◌, unsigned_abs, w64, refl, arith}
 use Rattle.std.proofs.lemmas.Int.{ints}
 use mir.Syntax.{w128}
-use Rattle.whole_algebra.proofs.Computed.{Computes, read, stored, sum, product}
+use Rattle.whole_algebra.proofs.Computed.{Computes, read, stored, sum, product, narrow, wide, via}
 use Rattle.whole_algebra.proofs.Laws.{linear, *ℤ-+ℤ, *ℤ--ℤ}
 use Rattle.whole_algebra.proofs.Signs.{nonneg-*-nonneg}
 use lib.IntN.{*ℤ_comm}
 use Rattle.plane_exact.specs.Limits.{limit, widest}
 use Rattle.plane_exact.specs.Nodes.{IsFraction}
-use Rattle.plane_exact.proofs.Sizes.{narrow, wide, via}
 
 -- a number of 64 bits that was widened to 128
 pub widened : (r z : ℤ) (m : ℕ) → r ≡ narrow z → unsigned_abs z ≤ m → ltb m (2 ^ 63) ≡ true → ltb m (2 ^ 127) ≡ true → Computes (wide r) z m

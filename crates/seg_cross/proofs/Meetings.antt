@@ -1,23 +1,21 @@
 -- What the four turns of two segments say of their common points.
 use Rattle.std.proofs.Common.{◌≡◌, ◌≤◌, ◌↔◌, IsTrue, Bool, false, subst₂, inl, inr, ℤ, pos, ◌+ℤ◌, ◌-ℤ◌, ◌*ℤ◌, neg_ℤ, ◌<ℤ◌, ◌≤ℤ◌, unsigned_abs, w64, [], ◌∷◌, refl, sym, ◌∙◌, subst, arith}
 use Rattle.std.proofs.lemmas.Int.{by_lt_z}
-use Rattle.whole_algebra.proofs.Computed.{Computes, negation, stored}
+use Rattle.whole_algebra.proofs.Computed.{Computes, negation, stored, narrow}
 use Rattle.std.proofs.lemmas.Bool.{false≢true}
 use Rattle.whole_algebra.proofs.Laws.{linear, *ℤ_one}
 use Rattle.whole_algebra.proofs.Polynomials.{var, ◌⊕◌, ◌⊖◌, ◌⊗◌, minus, identity}
 use Rattle.whole_algebra.proofs.Signs.{by_sign}
 use Rattle.plane_exact.specs.Limits.{widest}
-use Rattle.plane_exact.specs.Nodes.{IsAt}
+use Rattle.plane_laws.specs.Plane.{IsAt, Point, turn}
 use Rattle.plane_exact.specs.Places.{point_of}
-use Rattle.plane_exact.specs.Plane.{Point, turn}
 use Rattle.plane_exact.specs.declared.point.Seg.{Seg}
-use Rattle.plane_exact.proofs.PlaneMix.{segment_flip}
-use Rattle.plane_exact.proofs.PlaneOn.{mix_turn}
-use Rattle.plane_exact.proofs.PlaneTurn.{turn_swap}
-use Rattle.plane_exact.proofs.Sizes.{narrow}
+use Rattle.plane_laws.proofs.Segments.Mixes.{segment_flip}
+use Rattle.plane_laws.proofs.Segments.On.{mix_turn}
+use Rattle.plane_laws.proofs.Turns.Turns.{turn_swap}
 use Rattle.seg_cross.specs.Meets.{IsCommon, IsOnlyCommon}
 use Rattle.seg_cross.specs.Sides.{IsOneSide}
-use Rattle.seg_cross.proofs.Crossings.{apart_left, apart_right, crossing_w, on_first, on_second, only}
+use Rattle.plane_laws.proofs.Segments.Crossings.{apart_left, apart_right, crossing_w, on_first, on_second, only}
 
 -- a turn that the code was given, as it is read
 pub plain_turn : (r z : ℤ) → r ≡ z → unsigned_abs r ≤ widest → Computes (narrow r) z widest

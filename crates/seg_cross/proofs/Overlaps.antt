@@ -5,16 +5,16 @@ use Rattle.std.proofs.lemmas.Cmp.{upto, tied_itself}
 use lib.IntN.{*ℤ-zero}
 use Rattle.whole_algebra.proofs.Laws.{*ℤ_one}
 use Rattle.whole_algebra.proofs.Signs.{zero_factor, pos_nonzero}
-use Rattle.plane_exact.specs.Orders.{compare_points, IsBefore}
+use Rattle.plane_laws.specs.Orders.{compare_points, IsBefore}
 use Rattle.plane_exact.specs.Places.{point_of}
-use Rattle.plane_exact.specs.Plane.{Point, IsSamePoint, IsOnSegment, turn}
+use Rattle.plane_laws.specs.Plane.{Point, IsSamePoint, IsOnSegment, turn}
 use Rattle.plane_exact.specs.declared.point.Pt.{Pt}
 use Rattle.plane_exact.specs.declared.point.Seg.{Seg}
-use Rattle.plane_exact.proofs.Lines.{AtMost, on_segment-AtMost, on_segment-from_AtMost, three_on_line}
-use Rattle.plane_exact.proofs.PlaneMix.{segment_flip, start_on_segment, end_on_segment}
-use Rattle.plane_exact.proofs.PlaneOn.{mix_turn}
-use Rattle.plane_exact.proofs.PointOrder.{compare_points_total, same_compare_points}
-use Rattle.plane_exact.proofs.Segments.{turn-mix}
+use Rattle.plane_laws.proofs.Segments.Lines.{AtMost, on_segment-AtMost, on_segment-from_AtMost, three_on_line}
+use Rattle.plane_laws.proofs.Segments.Mixes.{segment_flip, start_on_segment, end_on_segment}
+use Rattle.plane_laws.proofs.Segments.On.{mix_turn}
+use Rattle.plane_laws.proofs.Points.Order.{compare_points_total, same_compare_points}
+use Rattle.plane_laws.proofs.Segments.Onto.{turn-mix}
 use Rattle.seg_cross.specs.Meets.{IsOn, IsCommon, IsOnlyCommon, IsOverlap, AreOnOneLine}
 
 -- ---- the order of points

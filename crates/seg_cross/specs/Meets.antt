@@ -1,9 +1,9 @@
 -- The common points of two segments.
 use Rattle.std.specs.Prelude.{◌≡◌, pos}
 use Rattle.plane_exact.specs.NodePoints.{point_at}
-use Rattle.plane_exact.specs.Orders.{IsBefore}
+use Rattle.plane_laws.specs.Orders.{IsBefore}
 use Rattle.plane_exact.specs.Places.{IsInLimit, point_of}
-use Rattle.plane_exact.specs.Plane.{Point, IsSamePoint, IsOnSegment, turn}
+use Rattle.plane_laws.specs.Plane.{Point, IsSamePoint, IsOnSegment, turn}
 use Rattle.plane_exact.specs.declared.point.Pt.{Pt}
 use Rattle.plane_exact.specs.declared.point.Seg.{Seg}
 use Rattle.seg_cross.specs.Sides.{IsOneSide}

@@ -1,7 +1,7 @@
 ghost use Rattle.std.specs.Prelude.{◌≡◌, ◌≤◌, IsTrue, ◌↔◌, pos, ◌+ℤ◌, ◌*ℤ◌, ◌≤ℤ◌, ◌<ℤ◌, unsigned_abs};
 ghost use Rattle.plane_exact.specs.Limits.{limit, widest};
 ghost use Rattle.plane_exact.specs.NodePoints.{point_at};
-ghost use Rattle.plane_exact.specs.Nodes.{IsAt};
+ghost use Rattle.plane_laws.specs.Plane.{IsAt};
 ghost use Rattle.plane_exact.specs.Places.{IsInLimit};
 ghost use Rattle.seg_cross.specs.Sides.{IsOneSide};
 

@@ -1,5 +1,5 @@
 ghost use Rattle.std.specs.Prelude.{◌≡◌, ◌≢◌, ◌⊎◌};
-ghost use Rattle.plane_exact.specs.Orders.{IsBefore};
+ghost use Rattle.plane_laws.specs.Orders.{IsBefore};
 ghost use Rattle.plane_exact.specs.Places.{IsInLimit, point_of};
 ghost use Rattle.seg_cross.specs.Meets.{IsMeet, HasEndsInLimit, AreOnOneLine};
 

@@ -4,10 +4,10 @@ use Rattle.im_matrix.specs.declared.Cell.{Cell}
 use Rattle.im_matrix.specs.declared.Dim.{Dim}
 use Rattle.im_matrix.specs.declared.Matrix.{Matrix}
 use Rattle.im_matrix.specs.Cells.{rank, greater, dimension_at}
-use Rattle.im_matrix.proofs.Matrices.{same_cell?}
+use Rattle.im_matrix.proofs.Laws.{same_cell?}
 use Rattle.topo_pred.specs.Later.{IsAtLeast}
 use Rattle.topo_pred.specs.Values.{Feed, IsRaised, IsFed, KnownIsFinal}
-use Rattle.im_matrix.proofs.Dimensions.{greater-least}
+use Rattle.im_matrix.proofs.Laws.{greater-least}
 use Rattle.topo_pred.proofs.Matrices.{itself}
 
 -- after one feed

@@ -7,7 +7,7 @@ use Rattle.im_matrix.specs.declared.Matrix.{Matrix}
 use Rattle.im_matrix.specs.Cells.{cell, dimension_at, rank}
 use Rattle.im_matrix.specs.Parts.{has}
 use Rattle.topo_pred.specs.Later.{IsAtLeast, IsKnown}
-use Rattle.im_matrix.proofs.Dimensions.{is_present-later}
+use Rattle.im_matrix.proofs.Laws.{is_present-later}
 use Rattle.topo_pred.proofs.Matrices.{everywhere, everywhere-most, itself}
 use Rattle.topo_pred.proofs.CellTests.{lt-later, or-later, and-later, and_not_false, and_not_true}
 

@@ -9,7 +9,7 @@ use Rattle.im_matrix.specs.declared.Row.{Row}
 use Rattle.im_matrix.specs.declared.Matrix.{Matrix}
 use Rattle.im_matrix.specs.Cells.{rank, greater, character_of, row_at, in_row}
 use Rattle.im_matrix.specs.Patterns.{is_present}
-use Rattle.im_matrix.proofs.Dimensions.{rank-most}
+use Rattle.im_matrix.proofs.Laws.{rank-most}
 use Rattle.topo_pred.specs.Later.{IsAtLeast}
 
 -- each cell of the later row is at least that of the present one

@@ -11,7 +11,7 @@ use Rattle.im_matrix.specs.Cells.{cell, dimension_at, rank, greater}
 use Rattle.im_matrix.specs.Parts.{has, figures_meet, a_leaves_b, b_leaves_a}
 use Rattle.im_matrix.specs.Names.{name_value, rule_value, one_of}
 use Rattle.topo_pred.specs.Later.{IsAtLeast, IsKnown}
-use Rattle.im_matrix.proofs.Dimensions.{greater-least, rank-most}
+use Rattle.im_matrix.proofs.Laws.{greater-least, rank-most}
 use Rattle.topo_pred.proofs.Matrices.{is_points, is_lines, is_present-greater_zero, rank-greater_zero, rank-greater_one, rank-greater_one-two, itself, with_cells, with_cells-least}
 use Rattle.topo_pred.proofs.KnownTests.{known_value, rising-rank, IsRising, rising-has, rising-or, rising-and, refuted_by, confirmed_by}
 use Rattle.topo_pred.proofs.CellTests.{four_and_two, two_and_four, one_and_two, none_of_four, one_of_four, not_first, two_cells, three_cells, none_of_two_and_two, one_and_four}

@@ -32,7 +32,8 @@
 --         let first = .. in
 --         let second = .. in
 --         (stored w64 (difference first second) refl).is
-use Rattle.std.proofs.Common.{ℕ, ◌≡◌, ◌+◌, ◌*◌, ◌^◌, ◌≤◌, true, ltb, leb, ℤ, pos, ◌+ℤ◌, ◌-ℤ◌, ◌*ℤ◌, neg_ℤ, nat_abs, FitsSigned, to_z, of_z, ◌<ℤ◌, ◌≤ℤ◌, ◌↔◌, IsTrue, false, nat_eq, ap, refl, sym, ◌∙◌, subst, subst₂, mul-le-mul, to_z-of_z, le_trans, arith}
+use mir.Syntax.{w128}
+use Rattle.std.proofs.Common.{w64, ℕ, ◌≡◌, ◌+◌, ◌*◌, ◌^◌, ◌≤◌, true, ltb, leb, ℤ, pos, ◌+ℤ◌, ◌-ℤ◌, ◌*ℤ◌, neg_ℤ, nat_abs, FitsSigned, to_z, of_z, ◌<ℤ◌, ◌≤ℤ◌, ◌↔◌, IsTrue, false, nat_eq, ap, refl, sym, ◌∙◌, subst, subst₂, mul-le-mul, to_z-of_z, le_trans, arith}
 use Rattle.std.proofs.lemmas.Int.{unsigned_abs-mul, fits_signed_from_abs}
 use borrow.Author.Differences.{ints}
 use borrow.Author.Tests.{eqb-true, eq-eqb, ltb-true, leb-true}
@@ -125,3 +126,11 @@ same_test w {s} {t} {x} {y} d b e c = (forward, back)
 
     back : x ≡ y → IsTrue (nat_eq (of_z w s) (of_z w t))
     back h = eq-eqb (of_z w s) (of_z w t) (ap (of_z w) (d.is ∙ h ∙ sym e.is))
+
+-- a number of 64 bits, as goals show it
+abbrev pub narrow : ℤ → ℤ
+narrow z = to_z w64 (of_z w64 z)
+
+-- a number of 128 bits, as goals show it
+abbrev pub wide : ℤ → ℤ
+wide z = to_z w128 (of_z w128 z)

@@ -4,3 +4,4 @@ pub mod Signs
 pub mod Certificates
 pub mod Computed
 pub mod Divisors
+pub mod Comparisons

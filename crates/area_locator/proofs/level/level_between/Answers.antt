@@ -1,10 +1,9 @@
 use Rattle.std.proofs.Common.{◌≡◌, pos, ◌+ℤ◌, ◌*ℤ◌, to_z, of_z, w64, ap, refl, sym, ◌∙◌, subst₂}
 use Rattle.std.specs.Int.{int_div_euclid}
 use mir.Syntax.{w128}
-use Rattle.whole_algebra.proofs.Computed.{Computes, product, stored, fits}
+use Rattle.whole_algebra.proofs.Computed.{Computes, product, stored, fits, narrow, wide}
 use Rattle.plane_exact.specs.Limits.{limit, largest, heaviest}
 use Rattle.plane_exact.specs.NodePoints.{point_at}
-use Rattle.plane_exact.proofs.Sizes.{narrow, wide}
 use Rattle.area_locator.specs.Levels.{IsLevel}
 use Rattle.area_locator.proofs.Levels.{IsFloor-quotient, IsLevel-whole, IsLevel-between, height, weight, quotient, next}
 use Rattle.area_locator.proofs.level.level_between.Goals as goal

@@ -1,7 +1,7 @@
 use Rattle.std.proofs.Common.{◌≡◌, ℕ, Bool, ◌+◌, ◌<◌, length, drop, get_or, List, ◌∷◌, false, ap, sym, ◌∙◌, subst, arith, pos, add-one}
 use Rattle.std.proofs.Math.Seq.{drop-cons}
 use Rattle.plane_exact.specs.NodePoints.{point_at}
-use Rattle.plane_exact.specs.Plane.{Point}
+use Rattle.plane_laws.specs.Plane.{Point}
 use Rattle.plane_exact.specs.declared.point.Pt.{Pt}
 use Rattle.point_set.specs.Rings.{is_odd, is_on_edges, edges_after, differ}
 use Rattle.point_set.specs.Location.{location_by}

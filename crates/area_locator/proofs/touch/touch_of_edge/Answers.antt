@@ -1,8 +1,8 @@
 use Rattle.std.proofs.Common.{false, ap, sym, ◌∙◌, rules}
 use Rattle.plane_exact.specs.NodePoints.{point_at}
 use Rattle.plane_exact.specs.Places.{point_of}
-use Rattle.plane_exact.specs.Plane.{IsOnSegment}
-use Rattle.point_set.proofs.SidesRing.{off_edge}
+use Rattle.plane_laws.specs.Plane.{IsOnSegment}
+use Rattle.side_laws.proofs.Edges.Places.{off_edge}
 use Rattle.area_locator.specs.Touches.{touch_by}
 use Rattle.area_locator.proofs.Touching.{touch_left, touch_right, touch_on_line, on_edge}
 use Rattle.area_locator.proofs.touch.touch_of_edge.Goals as goal

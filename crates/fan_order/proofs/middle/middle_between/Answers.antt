@@ -1,6 +1,7 @@
 use Rattle.std.proofs.Common.{pos, ◌<ℤ◌, rules}
 use Rattle.whole_algebra.proofs.Signs.{not_<ℤ}
-use Rattle.plane_exact.specs.Orders.{direction_of, bend_of}
+use Rattle.plane_exact.specs.Orders.{direction_of}
+use Rattle.plane_laws.specs.Directions.{bend_of}
 use Rattle.fan_order.proofs.Middles.{sum_is_within, quarter_is_within}
 use Rattle.fan_order.proofs.middle.middle_between.Goals as goal
 

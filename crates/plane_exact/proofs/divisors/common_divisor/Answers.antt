@@ -3,7 +3,7 @@ use Rattle.std.specs.Int.{◌∣◌}
 use Rattle.std.proofs.lemmas.Int.{ints}
 use Rattle.std.proofs.lemmas.Nat.Gcd.{dvd_trans}
 use Rattle.std.proofs.Math.Nat.{pos_of_dvd_of_pos}
-use Rattle.plane_exact.proofs.Sizes.{wide}
+use Rattle.whole_algebra.proofs.Computed.{wide}
 use Rattle.plane_exact.proofs.divisors.common_divisor.Goals as goal
 
 -- what the calls gave, in terms of the three numbers

@@ -1,6 +1,6 @@
 use Rattle.std.proofs.Common.{sym, ◌∙◌}
 use Rattle.std.proofs.lemmas.Bool.{false≢true}
-use Rattle.plane_exact.proofs.AlongOrder.{compare_along-ahead, compare_along-back}
+use Rattle.plane_laws.proofs.Segments.Order.{compare_along-ahead, compare_along-back}
 use Rattle.plane_exact.proofs.orders.cmp_along.Goals as goal
 
 pub returns-then-is_before : goal.returns-then-is_before

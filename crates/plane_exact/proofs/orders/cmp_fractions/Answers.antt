@@ -4,7 +4,7 @@ use Rattle.std.specs.Ordering.{int_cmp}
 use Rattle.std.proofs.lemmas.Int.{ints}
 use mir.Syntax.{w128}
 use Rattle.whole_algebra.proofs.Computed.{read, product, stored}
-use Rattle.plane_exact.proofs.Comparisons.{same_int_cmp}
+use Rattle.whole_algebra.proofs.Comparisons.{same_int_cmp}
 use Rattle.plane_exact.proofs.Sizes.{numerator_size, weight_size}
 use Rattle.plane_exact.proofs.orders.cmp_fractions.Goals as goal
 

@@ -1,6 +1,6 @@
 use Rattle.std.proofs.Common.{◌∙◌}
-use Rattle.plane_exact.specs.Orders.{compare_fractions}
-use Rattle.plane_exact.proofs.Comparisons.{then_first}
+use Rattle.plane_laws.specs.Orders.{compare_fractions}
+use Rattle.whole_algebra.proofs.Comparisons.{then_first}
 use Rattle.plane_exact.proofs.Sizes.{plain_numerator, plain_weight}
 use Rattle.plane_exact.proofs.orders.cmp_nodes.Goals as goal
 

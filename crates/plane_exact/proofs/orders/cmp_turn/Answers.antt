@@ -1,10 +1,11 @@
 use Rattle.std.proofs.Common.{◌≡◌, pos, Equal, w64, refl, sym, ◌∙◌, ap}
 use Rattle.std.specs.Ordering.{bool_cmp, int_cmp}
-use Rattle.whole_algebra.proofs.Computed.{read, product, difference, stored}
-use Rattle.plane_exact.specs.Orders.{bend_of, bend, compare_angles, past_half}
-use Rattle.plane_exact.proofs.AngleOrder.{compare_angles-same, same_compare_angles}
-use Rattle.plane_exact.proofs.Comparisons.{then_first, then_second}
-use Rattle.plane_exact.proofs.Sizes.{via, way_size_across, way_size_above}
+use Rattle.whole_algebra.proofs.Computed.{read, product, difference, stored, via}
+use Rattle.plane_laws.specs.Directions.{bend_of, past_half}
+use Rattle.plane_exact.specs.Orders.{bend, compare_angles}
+use Rattle.plane_exact.proofs.Angles.{compare_angles-same, same_compare_angles}
+use Rattle.whole_algebra.proofs.Comparisons.{then_first, then_second}
+use Rattle.plane_exact.proofs.Sizes.{way_size_across, way_size_above}
 use Rattle.plane_exact.proofs.orders.cmp_turn.Goals as goal
 
 -- by the halves, where they differ

@@ -1,10 +1,9 @@
 use Rattle.std.proofs.Common.{◌≡◌, ℤ, pos, ◌<ℤ◌, w64, refl, sym, subst, subst₂, arith}
 use Rattle.std.proofs.lemmas.Int.{ints, quot-rem}
 use Rattle.std.specs.Int.RustNames.{int_div, int_rem}
-use Rattle.whole_algebra.proofs.Computed.{sum, difference, literal, stored, fits}
+use Rattle.whole_algebra.proofs.Computed.{sum, difference, literal, stored, fits, wide}
 use Rattle.plane_exact.specs.Nodes.{IsRange}
 use Rattle.plane_exact.proofs.Ranges.{range_below, range_exact, range_above, quotient, rest, rest_size}
-use Rattle.plane_exact.proofs.Sizes.{wide}
 use Rattle.plane_exact.proofs.rounding.whole_range.Goals as goal
 
 pub overflow_add-result : goal.overflow_add-result

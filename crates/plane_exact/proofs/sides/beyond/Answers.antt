@@ -1,8 +1,8 @@
 use Rattle.std.proofs.Common.{◌-ℤ◌, ◌*ℤ◌, refl, ◌∙◌}
 use mir.Syntax.{w64, w128}
-use Rattle.whole_algebra.proofs.Computed.{Computes, read, product, difference, stored, fits, bounded}
+use Rattle.whole_algebra.proofs.Computed.{Computes, read, product, difference, stored, fits, bounded, wide}
 use Rattle.plane_exact.specs.Limits.{largest, longest}
-use Rattle.plane_exact.proofs.Sizes.{wide, numerator_size, weight_size}
+use Rattle.plane_exact.proofs.Sizes.{numerator_size, weight_size}
 use Rattle.plane_exact.proofs.sides.beyond.Goals as goal
 
 scaled : (c : goal.After-from) → Computes (wide c.from.result *ℤ wide c.args.w) (c.args.coordinate *ℤ c.args.w) largest

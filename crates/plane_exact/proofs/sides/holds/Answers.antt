@@ -2,7 +2,8 @@ use Rattle.std.proofs.Common.{ℤ, ◌*ℤ◌, ◌≤◌, ◌≤ℤ◌, unsigned
 use Rattle.std.proofs.lemmas.Bool.{false≢true}
 use Rattle.plane_exact.specs.Limits.{limit}
 use Rattle.plane_exact.specs.Nodes.{IsFraction}
-use Rattle.plane_exact.proofs.Sizes.{narrow, wide, plain_numerator, plain_product, abscissa_size, height_size}
+use Rattle.whole_algebra.proofs.Computed.{narrow, wide}
+use Rattle.plane_exact.proofs.Sizes.{plain_numerator, plain_product, abscissa_size, height_size}
 use Rattle.plane_exact.proofs.sides.holds.Goals as goal
 
 -- what is said of the numbers as they are read holds of the numbers, and the other way round

@@ -2,8 +2,8 @@ use Rattle.std.proofs.Common.{ℤ, pos, ◌-ℤ◌, ◌*ℤ◌, ◌<ℤ◌, ◌�
 use Rattle.std.proofs.lemmas.Int.{ints}
 use mir.Syntax.{w128}
 use Rattle.whole_algebra.proofs.Laws.{linear}
-use Rattle.whole_algebra.proofs.Computed.{stored, literal, at_most_test}
-use Rattle.plane_exact.proofs.Sizes.{wide, via, gap}
+use Rattle.whole_algebra.proofs.Computed.{stored, literal, at_most_test, wide, via}
+use Rattle.plane_exact.proofs.Sizes.{gap}
 use Rattle.plane_exact.proofs.sides.is_between.Goals as goal
 
 pub returns-then-beyond-ge0 : goal.returns-then-beyond-ge0

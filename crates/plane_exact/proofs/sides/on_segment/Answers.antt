@@ -6,7 +6,7 @@ use Rattle.plane_exact.specs.declared.sign.Sign.TheVariants.{Zero}
 use Rattle.plane_exact.specs.Signs.{sign_of}
 use Rattle.plane_exact.specs.NodePoints.{point_at}
 use Rattle.plane_exact.proofs.SegmentBoxes.{on_segment_in_box}
-use Rattle.plane_exact.proofs.PlaneOn.{mix_turn}
+use Rattle.plane_laws.proofs.Segments.On.{mix_turn}
 use Rattle.plane_exact.proofs.SignFacts.{zero_sign}
 use Rattle.plane_exact.proofs.sides.on_segment.Goals as goal
 

@@ -1,14 +1,14 @@
 use Rattle.std.proofs.Common.{◌≡◌, ℤ, ◌-ℤ◌, ◌*ℤ◌, refl, ◌∙◌, ap}
 use mir.Syntax.{w64, w128}
-use Rattle.whole_algebra.proofs.Computed.{Computes, product, difference, stored, fits}
+use Rattle.whole_algebra.proofs.Computed.{Computes, product, difference, stored, fits, narrow, wide, via}
 use Rattle.plane_exact.specs.Limits.{spread, longest}
 use Rattle.plane_exact.specs.NodePoints.{point_at}
 use Rattle.plane_exact.specs.Places.{IsInLimit}
 use Rattle.plane_exact.specs.Signs.{sign_of}
 use Rattle.plane_exact.specs.declared.node.Node.{Node}
 use Rattle.plane_exact.specs.declared.point.Pt.{Pt}
-use Rattle.plane_exact.proofs.Sizes.{narrow, wide, via, step, across, upward, gap, abscissa_size, height_size}
-use Rattle.plane_exact.proofs.TurnNumbers.{turn-point}
+use Rattle.plane_exact.proofs.Sizes.{step, across, upward, gap, abscissa_size, height_size}
+use Rattle.plane_exact.proofs.Positions.{turn-point}
 use Rattle.plane_exact.proofs.sides.wide_side.Goals as goal
 
 -- the four numbers that are multiplied

@@ -1,8 +1,8 @@
 use Rattle.std.proofs.Common.{◌-ℤ◌, ◌*ℤ◌, w64, refl, ◌∙◌}
-use Rattle.whole_algebra.proofs.Computed.{Computes, stored, bounded}
+use Rattle.whole_algebra.proofs.Computed.{Computes, stored, bounded, narrow}
 use Rattle.plane_exact.specs.Limits.{widest}
-use Rattle.plane_exact.proofs.Sizes.{narrow, turned}
-use Rattle.plane_exact.proofs.TurnNumbers.{turn-positions}
+use Rattle.plane_exact.proofs.Sizes.{turned}
+use Rattle.plane_exact.proofs.Positions.{turn-positions}
 use Rattle.plane_exact.proofs.turns.turn_of.Goals as goal
 
 whole : (c : goal.After-cross) → Computes (narrow c.cross.result) ((c.args.b.x -ℤ c.args.a.x) *ℤ (c.args.c.y -ℤ c.args.a.y) -ℤ (c.args.b.y -ℤ c.args.a.y) *ℤ (c.args.c.x -ℤ c.args.a.x)) widest

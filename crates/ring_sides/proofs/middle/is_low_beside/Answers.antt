@@ -3,7 +3,7 @@ use Rattle.std.specs.Prelude.{int_le}
 use lib.IntN.{*ℤ_comm}
 use Rattle.whole_algebra.proofs.Laws.{*ℤ_one}
 use Rattle.whole_algebra.proofs.Computed.{read, literal, product, sum, stored}
-use Rattle.plane_exact.proofs.Sizes.{height_size}
+use Rattle.plane_exact.proofs.Laws.{height_size}
 use Rattle.ring_sides.proofs.middle.is_low_beside.Goals as goal
 
 pub returns : goal.returns

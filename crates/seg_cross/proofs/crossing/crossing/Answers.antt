@@ -1,10 +1,10 @@
 use Rattle.std.proofs.Common.{◌≡◌, ℤ, ◌*ℤ◌, refl, sym, ◌∙◌, subst₂}
-use Rattle.plane_exact.specs.Plane.{Point}
+use Rattle.plane_laws.specs.Plane.{Point, IsAt}
 use mir.Syntax.{w128}
 use Rattle.whole_algebra.proofs.Computed.{stored, fits}
 use Rattle.plane_exact.specs.NodePoints.{point_at}
-use Rattle.plane_exact.specs.Nodes.{IsFraction, IsAt}
-use Rattle.plane_exact.proofs.Sizes.{abscissa_size, height_size}
+use Rattle.plane_exact.specs.Nodes.{IsFraction}
+use Rattle.plane_exact.proofs.Laws.{abscissa_size, height_size}
 use Rattle.seg_cross.proofs.Means.{weights, mean_of, IsFraction-mean}
 use Rattle.seg_cross.proofs.crossing.crossing.Goals as goal
 

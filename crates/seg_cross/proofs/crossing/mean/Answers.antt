@@ -1,8 +1,7 @@
 use Rattle.std.proofs.Common.{◌+ℤ◌, ◌*ℤ◌, refl}
 use mir.Syntax.{w128}
-use Rattle.whole_algebra.proofs.Computed.{Computes, sum, product, stored, fits}
+use Rattle.whole_algebra.proofs.Computed.{Computes, sum, product, stored, fits, wide}
 use Rattle.plane_exact.specs.Limits.{limit, widest}
-use Rattle.plane_exact.proofs.Sizes.{wide}
 use Rattle.seg_cross.proofs.Means.{widened}
 use Rattle.seg_cross.proofs.crossing.mean.Goals as goal
 

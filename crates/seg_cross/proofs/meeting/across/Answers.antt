@@ -1,7 +1,7 @@
 use Rattle.std.proofs.Common.{ℤ, pos, ◌+ℤ◌, neg_ℤ, ◌<ℤ◌, ◌≤ℤ◌, sym, subst, subst₂, arith}
 use Rattle.std.proofs.lemmas.Int.{ints}
 use Rattle.whole_algebra.proofs.Laws.{linear}
-use Rattle.plane_exact.proofs.Sizes.{narrow}
+use Rattle.whole_algebra.proofs.Computed.{narrow}
 use Rattle.seg_cross.specs.Sides.{IsOneSide}
 use Rattle.seg_cross.proofs.Meetings.{plain_turn, minus_turn, not_one_side, as_turns, below_from_slanted, in_order, against_order, apart_by_first, crossing_ahead, crossing_back, of_a, of_b}
 use Rattle.seg_cross.proofs.meeting.across.Goals as goal

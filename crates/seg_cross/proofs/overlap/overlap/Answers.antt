@@ -1,7 +1,7 @@
 use Rattle.std.proofs.Common.{sym, ◌∙◌, subst}
 use Rattle.std.proofs.lemmas.Bool.{false≢true}
 use Rattle.plane_exact.specs.Places.{IsInLimit}
-use Rattle.plane_exact.specs.Plane.{Point}
+use Rattle.plane_laws.specs.Plane.{Point}
 use Rattle.seg_cross.specs.Meets.{IsOnlyCommon}
 use Rattle.seg_cross.proofs.Overlaps.{earlier_has, later_has, one_position, overlap_along, overlap_at, overlap_apart}
 use Rattle.seg_cross.proofs.overlap.overlap.Goals as goal

@@ -1,7 +1,7 @@
 use Rattle.std.proofs.Common.{ap, arith}
 use Rattle.std.proofs.lemmas.Int.{ints}
-use Rattle.plane_exact.specs.Plane.{Point}
-use Rattle.plane_exact.proofs.Points.{same_numbers}
+use Rattle.plane_laws.specs.Plane.{Point}
+use Rattle.plane_laws.proofs.Points.Numbers.{same_numbers}
 use Rattle.plane_exact.proofs.node.Node.position.Goals as goal
 
 pub returns-then-self-eq1-clause-point : goal.returns-then-self-eq1-clause-point

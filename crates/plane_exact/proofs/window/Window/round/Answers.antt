@@ -3,7 +3,8 @@ use Rattle.std.proofs.lemmas.Int.{ints}
 use Rattle.plane_exact.specs.Nodes.{IsFraction, IsRange}
 use Rattle.plane_exact.specs.NodePoints.{point_at}
 use Rattle.plane_exact.proofs.Boxes.{least_of_point}
-use Rattle.plane_exact.proofs.Sizes.{narrow, wide, plain_numerator, plain_weight}
+use Rattle.whole_algebra.proofs.Computed.{narrow, wide}
+use Rattle.plane_exact.proofs.Sizes.{plain_numerator, plain_weight}
 use Rattle.plane_exact.proofs.window.Window.round.Goals as goal
 
 as_stored : (x w low high : ℤ) → IsFraction x w → low ≡ narrow low → high ≡ narrow high → IsRange (wide x) (wide w) low high → IsRange x w (narrow low) (narrow high)

@@ -1,0 +1,3 @@
+-- Where a point lies in a figure is said of the point, and the kinds of location exclude each other.
+pub mod Same
+pub mod Kinds

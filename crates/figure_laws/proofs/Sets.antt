@@ -1,0 +1,3 @@
+-- Sets of points: their dimension, and finite ones.
+pub mod Dimensions
+pub mod FinitePoints

@@ -1,0 +1,3 @@
+-- Germs in the sectors between neighbouring rays.
+pub mod Germ
+pub mod Rays

@@ -1,8 +1,0 @@
-use Rattle.plane_exact.proofs.laws.law_mixes_are_means.Goals as goal
-use Rattle.plane_exact.proofs.PlaneMix.{mix_is_mean, mean_is_mix}
-
-pub returns : goal.returns
-returns c = record {
-  mean = λ a b p s t m. mix_is_mean m;
-  mix = λ a b p s t m. mean_is_mix m;
-}

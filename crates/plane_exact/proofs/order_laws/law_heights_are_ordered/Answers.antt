@@ -1,5 +1,0 @@
-use Rattle.plane_exact.proofs.PointOrder.{by_y_total}
-use Rattle.plane_exact.proofs.order_laws.law_heights_are_ordered.Goals as goal
-
-pub returns : goal.returns
-returns c = record { total = by_y_total }

@@ -1,0 +1,2 @@
+-- Directions and the order of their angles.
+pub mod Angles

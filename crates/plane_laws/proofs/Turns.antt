@@ -1,0 +1,2 @@
+-- Turns, rises and shifts.
+pub mod Turns

@@ -1,0 +1,4 @@
+pub mod Plane
+pub mod Directions
+pub mod Orders
+pub mod Along

@@ -1,8 +1,0 @@
-use Rattle.point_set.proofs.laws.law_cover_is_of_points.Goals as goal
-use Rattle.point_set.proofs.SamePoint.{is_covered-same, IsAreaInterior-same}
-
-pub returns : goal.returns
-returns c = record {
-  covered = λ f p q h. is_covered-same h f;
-  interior = λ f p q. IsAreaInterior-same;
-}

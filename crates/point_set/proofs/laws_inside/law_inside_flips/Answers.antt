@@ -1,8 +1,0 @@
-use Rattle.point_set.proofs.laws_inside.law_inside_flips.Goals as goal
-use Rattle.point_set.proofs.ParityRing.{inside_flips}
-
-pub returns : goal.returns
-returns c = record {
-  flips = λ ring closed before e after is p q m left right between on miss.
-      inside_flips ring closed before e after is p q m left right between on (record { off = miss });
-}

@@ -1,0 +1,3 @@
+-- The location near a point along a direction.
+pub mod Edges
+pub mod Areas

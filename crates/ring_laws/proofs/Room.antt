@@ -1,0 +1,2 @@
+-- Near a point only the edges through it matter.
+pub mod Edges

@@ -1,0 +1,2 @@
+-- The hands of the edges of an area.
+pub mod Hands
