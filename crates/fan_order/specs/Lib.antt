@@ -1,2 +1,3 @@
 pub mod Rays
 pub mod Fans
+pub mod Sections

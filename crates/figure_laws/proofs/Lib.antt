@@ -1,2 +1,4 @@
 pub mod Points
 pub mod Sets
+pub mod Edges
+pub mod Lists

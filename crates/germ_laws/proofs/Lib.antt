@@ -1,1 +1,4 @@
 pub mod Sectors
+pub mod Room
+pub mod Rays
+pub mod Cover

@@ -2,3 +2,4 @@
 pub mod Parted
 pub mod Near
 pub mod Away
+pub mod Triangles

@@ -1,5 +1,5 @@
 -- The edges of a figure in order, each with the line or ring to which it belongs.
-use Rattle.std.specs.Prelude.{◌≡◌, ℕ, ◌+◌, List, [], ◌∷◌, ◌++◌, map, Contains}
+use Rattle.std.specs.Prelude.{Bool, true, false, Option, Some, None, ◌≡◌, ℕ, ◌+◌, List, [], ◌∷◌, ◌++◌, map, Contains}
 use Rattle.std.specs.List.{All}
 use Rattle.std.specs.List.Sorted.{IsStrictlyIncreasing}
 use Rattle.im_matrix.specs.declared.Loc.TheVariants.{Interior, Exterior}
@@ -90,3 +90,21 @@ pub record ArePlacesIn (w : Window) (edges : List OwnedEdge) (places : List ℕ)
   pub ascending : IsStrictlyIncreasing places
   pub meet : All (MeetsAtPlace w edges) places
   pub whole : (place : ℕ) → MeetsAtPlace w edges place → Contains places place
+
+-- The end towards which an edge is walked, forward or backward, the other end, and the hand of that way.
+abbrev pub far_end : Bool → Seg → Pt
+far_end true e = e.b
+far_end false e = e.a
+
+abbrev pub near_end : Bool → Seg → Pt
+near_end true e = e.a
+near_end false e = e.b
+
+abbrev pub hand_of_way : Bool → Hand → Hand
+hand_of_way true side = side
+hand_of_way false side = other_hand side
+
+-- The area of an edge's owner.
+abbrev pub area_of : Owner → Option ℕ
+area_of (Line place) = None
+area_of (Ring place ring) = Some place

@@ -12,3 +12,4 @@ pub mod Edges
 pub mod Sectors
 pub mod Germ
 pub mod Sides
+pub mod Cover

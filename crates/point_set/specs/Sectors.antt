@@ -1,5 +1,5 @@
 -- The sectors between neighbouring directions, a sector's middle, and the sectors that are free of an area's edges.
-use Rattle.std.specs.Prelude.{◌≡◌, true, ℕ, ◌+◌, ◌%◌, pos, ◌⊎◌, List, [], ◌∷◌, length, unsigned_abs}
+use Rattle.std.specs.Prelude.{◌-◌, ◌≡◌, true, ℕ, ◌+◌, ◌%◌, pos, ◌⊎◌, List, [], ◌∷◌, length, unsigned_abs}
 use Prim.Native.Nat.{◌∣◌}
 use Rattle.std.specs.List.{AllPairs, Any}
 use Rattle.std.specs.declared.cmp.Ordering.TheVariants.{Less}
@@ -57,3 +57,7 @@ sectors_of (ray ∷ rays) = length (ray ∷ rays)
 -- Lowest terms: only 1 divides both parts.
 pub record IsLowest (d : Dir) : Type 0 where
   pub only : (n : ℕ) → n ∣ unsigned_abs d.dx → n ∣ unsigned_abs d.dy → n ≡ 1
+
+-- The place of the sector that ends at ray i, of so many rays.
+abbrev pub sector_before : ℕ → ℕ → ℕ
+sector_before count i = (i + (count - 1)) % count

@@ -7,7 +7,7 @@ use Rattle.plane_exact.specs.declared.point.Pt.{Pt}
 use Rattle.plane_exact.specs.declared.point.Seg.{Seg}
 use Rattle.point_set.specs.Rings.{is_same_position, edge_before, edges_after, is_low, crosses, differ, is_odd}
 use Rattle.ring_laws.proofs.Parity.Tests.{differ_assoc}
-use Rattle.ring_laws.proofs.Parity.Ring.{same_position}
+use Rattle.figure_laws.proofs.Lists.Places.{same_position}
 use Rattle.side_laws.proofs.Rings.Ray.{crosses_level}
 
 no_crossing : (m : Point) (p : Pt) → crosses m (record { a = p; b = p }) ≡ false

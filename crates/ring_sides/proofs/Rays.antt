@@ -22,7 +22,7 @@ use Rattle.point_set.specs.Validity.{IsAtPlace, CrossesItself}
 use Rattle.point_set.specs.Sides.{slope, IsInsideHand}
 use Rattle.ring_laws.proofs.Parity.Tests.{tells_lt, tells_le, same_tests}
 use Rattle.ring_laws.proofs.Parity.Flip.{HasSign, crossing_of}
-use Rattle.ring_laws.proofs.Parity.Ring.{some_same}
+use Rattle.figure_laws.proofs.Lists.Places.{some_same}
 use Rattle.side_laws.proofs.Edges.Places.{ring_is_simple}
 use Rattle.side_laws.proofs.Edges.Beside.{by_hand, beside_at}
 use Rattle.side_laws.proofs.Rings.Joint.{IsBesideAll, beside_all}

@@ -20,7 +20,7 @@ use Rattle.point_set.specs.Rings.{edges_of}
 use Rattle.point_set.specs.Shape.{IsWellShaped, positions_of_area}
 use Rattle.point_set.specs.Sides.{IsInsideHand, other_hand}
 use Rattle.point_set.specs.Validity.{IsAtPlace, IsValid, HasTooFewPoints, CrossesItself, too_few_points, ring_cross}
-use Rattle.ring_laws.proofs.Parity.Ring.{some_same}
+use Rattle.figure_laws.proofs.Lists.Places.{some_same}
 use Rattle.side_laws.proofs.Areas.Hands.{area_shaped, area_clean, shell_hand, hole_hand}
 use Rattle.ring_sides.specs.Rows.{owned_edge, owned_edges, row_of, HasItsHand}
 

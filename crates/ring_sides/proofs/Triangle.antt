@@ -19,7 +19,7 @@ use Rattle.point_set.specs.declared.figure.Figure.{Figure}
 use Rattle.point_set.specs.Rings.{is_same_position, edge_before, edges_of}
 use Rattle.point_set.specs.Location.{rings_of}
 use Rattle.point_set.specs.Validity.{IsAtPlace, IsOnEdge, IsJoint, HasTooFewPoints, CrossesItself, SomeRing, SomeArea, SomeEarlier, RingsShareSegment, HasHoleOutside, HasHolesThatOverlap, Touch, HasTouchCycle, AreasShareSegment, AreasOverlap, too_few_points, ring_cross, rings_share_edge, hole_outside, holes_overlap, disconnected, elements_share_edge, elements_overlap, IsValid}
-use Rattle.ring_laws.proofs.Parity.Ring.{same_position, some_same}
+use Rattle.figure_laws.proofs.Lists.Places.{same_position, some_same}
 
 -- ---- two sides of a triangle have only their corner in common
 pub record AreCorners (a b c : Pt) : Type 0 where

@@ -21,7 +21,7 @@ use Rattle.point_set.specs.Validity.{IsAtPlace}
 use Rattle.point_set.specs.Sides.{slope, HoldsBeside, IsInsideHand}
 use Rattle.ring_laws.proofs.Parity.OneEdge.{crosses_swap}
 use Rattle.ring_laws.proofs.Parity.Tests.{differ_assoc, differ_comm, differ_none}
-use Rattle.ring_laws.proofs.Parity.Ring.{some_same}
+use Rattle.figure_laws.proofs.Lists.Places.{some_same}
 use Rattle.side_laws.proofs.Rings.Joint.{between_flip}
 use Rattle.ring_sides.proofs.Counting.{odd_before}
 

@@ -140,10 +140,10 @@ same_way_from r d k l hk hl h across above = by_sign k (λ n. absurd (under k n 
     some_k : pos 0 <ℤ k → PointSameWay r d
     some_k p = by_sign l (λ n. absurd (under l n hl)) (λ z. absurd (r.moves (none_second r.x d.x z across, none_second r.y d.y z above))) (λ q. record { m = k; n = l; some = p; other = q; across = across; above = above })
 
-dot_of_ways : Direction → Direction → ℤ
+unfoldable pub dot_of_ways : Direction → Direction → ℤ
 dot_of_ways u w = (u.x *ℤ w.x) +ℤ (u.y *ℤ w.y)
 
-level_same : (r s : Direction) → bend_of r s ≡ pos 0 → pos 0 <ℤ dot_of_ways r s → PointSameWay r s
+pub level_same : (r s : Direction) → bend_of r s ≡ pos 0 → pos 0 <ℤ dot_of_ways r s → PointSameWay r s
 unfolding bend_of dot_of_ways
 level_same r s z h = record {
   m = (r.x *ℤ s.x) +ℤ (r.y *ℤ s.y);

@@ -133,7 +133,7 @@ opposed : (u w : Direction) → pos 0 <ℤ bend_of u w → pos 0 <ℤ bend_of w 
 unfolding bend_of
 opposed u w h k = impossible_by (u.x ∷ u.y ∷ w.x ∷ w.y ∷ []) (positive (var 0 ⊗ var 3 ⊖ var 1 ⊗ var 2) h ⊞ positive (var 2 ⊗ var 1 ⊖ var 3 ⊗ var 0) k) refl
 
-turned_way : {u w : Direction} → PointSameWay u w → PointSameWay w u
+pub turned_way : {u w : Direction} → PointSameWay u w → PointSameWay w u
 turned_way h = record { m = h.n; n = h.m; some = h.other; other = h.some; across = sym h.across; above = sym h.above }
 
 -- what is to the left of a direction is to the left of each that points the same way
@@ -196,7 +196,7 @@ second_outside r s t q w =
     right n (inr a) = not_left a
 
 -- ---- in a list of rays
-one_at : {X : Type 0} (items : List X) (i j : ℕ) (x y : X) → i ≡ j → IsAtPlace items i x → IsAtPlace items j y → x ≡ y
+pub one_at : {X : Type 0} (items : List X) (i j : ℕ) (x y : X) → i ≡ j → IsAtPlace items i x → IsAtPlace items j y → x ≡ y
 one_at items i j x y e x_is y_is = sym (get_or_from_slice_get items i x x x_is) ∙ ap (λ (k : ℕ). get_or items k x) e ∙ get_or_from_slice_get items j y x y_is
 
 module _ (rays : List Dir) (ascending : AllPairs (λ d e. compare_angles d e ≡ Less) rays) where

@@ -2,10 +2,8 @@
 use Rattle.std.proofs.Common.{◌≡◌, ℕ, suc, ◌-◌, ℤ, pos, ◌≤ℤ◌, ◌<ℤ◌, Bool, true, false, not, List, [], ◌∷◌, ◌++◌, length, ◌⊎◌, inl, inr, ◌&&◌, ap, refl, sym, ◌∙◌, subst, arith}
 use Rattle.std.specs.Prelude.{Some, slice_get}
 use Rattle.std.proofs.lemmas.Int.{by_lt_z}
-use Rattle.std.specs.Ordering.{int_eq}
-use Rattle.std.proofs.lemmas.Bool.{or_parts, or_from, true≢false, and_parts, false_from_ne_true}
+use Rattle.std.proofs.lemmas.Bool.{or_parts, or_from, true≢false, false_from_ne_true}
 use Rattle.std.proofs.lemmas.List.Folds.{list_any-append}
-use Rattle.std.proofs.lemmas.Bool.Decides.{Decides-int_eq}
 use Rattle.std.proofs.Math.Bool.{not-not}
 use Rattle.whole_algebra.proofs.Signs.{pos_nonzero, <ℤ_apart}
 use Rattle.plane_laws.proofs.Segments.Mixes.{segment_flip, start_on_segment, end_on_segment}
@@ -20,21 +18,13 @@ use Rattle.point_set.specs.Shape.{IsClosed}
 use Rattle.ring_laws.proofs.Parity.Tests.{differ_none, differ_self, differ_mix, differ_join}
 use Rattle.ring_laws.proofs.Parity.OneEdge.{AreApart, is_beside, parity}
 use Rattle.ring_laws.proofs.Parity.Flip.{IsCut, flip, swapped_cut, turned_rise, cut_from_meet}
+use Rattle.figure_laws.proofs.Lists.Places.{some_same, same_position}
 
 -- ---- a test on positions changes evenly often along a closed ring
 -- exactly one end of an odd number of the edges passes the test
 abbrev pub is_odd_change : (Pt → Bool) → List Seg → Bool
 is_odd_change test [] = false
 is_odd_change test (e ∷ edges) = differ (differ (test e.a) (test e.b)) (is_odd_change test edges)
-
-pub same_position : (p q : Pt) → is_same_position p q ≡ true → p ≡ q
-same_position p q h = go (and_parts (int_eq p.x q.x) (int_eq p.y q.y) h)
-  where
-    go : (int_eq p.x q.x ≡ true) × (int_eq p.y q.y ≡ true) → p ≡ q
-    go k =
-        let ex : p.x ≡ q.x = (Decides-int_eq p.x q.x).0 k.0 in
-        let ey : p.y ≡ q.y = (Decides-int_eq p.y q.y).0 k.1 in
-        λ i. record { x = ex i; y = ey i }
 
 change_before : (test : Pt → Bool) (same : Bool) (p q : Pt) (edges : List Seg) (last : Bool) → is_same_position p q ≡ same → is_odd_change test edges ≡ differ (test q) last → is_odd_change test (edge_before same p q edges) ≡ differ (test p) last
 change_before test true p q edges last h e = e ∙ ap (λ z. differ (test z) last) (sym (same_position p q h))
@@ -48,9 +38,6 @@ change_along test p (q ∷ others) =
 last_item : (p : Pt) (others : List Pt) → slice_get (p ∷ others) (length others) ≡ Some (last_after p others)
 last_item p [] = refl
 last_item p (q ∷ others) = last_item q others
-
-pub some_same : {T : Type 0} {x y : T} → Some x ≡ Some y → x ≡ y
-some_same e = cc
 
 pub closed_last : (p : Pt) (others : List Pt) → IsClosed (p ∷ others) → last_after p others ≡ p
 closed_last p others closed = sym (some_same (closed ∙ ap (slice_get (p ∷ others)) (less_one (length others)) ∙ last_item p others))

@@ -27,7 +27,8 @@ use Rattle.point_set.specs.Germ.{IsGerm}
 use Rattle.point_set.specs.Sides.{slope, PointsTo, other_hand, IsInsideHand}
 use Rattle.point_set.specs.Edges.{IsOnEdgeAlone, IsAreaHand}
 use Rattle.ring_laws.proofs.Parity.Flip.{HasSign, signed_nonzero}
-use Rattle.ring_laws.proofs.Parity.Ring.{Misses, inside_stays, some_same}
+use Rattle.ring_laws.proofs.Parity.Ring.{Misses, inside_stays}
+use Rattle.figure_laws.proofs.Lists.Places.{some_same}
 use Rattle.plane_laws.proofs.Near.Near.{IsNear, near_mix}
 use Rattle.ring_laws.proofs.Room.Edges.{HoldBoth, HasRoom, room}
 use Rattle.plane_laws.proofs.Near.Away.{away_point, away_point_is, away_near, far_for}

@@ -15,7 +15,8 @@ use Rattle.point_set.specs.Validity.{IsAtPlace}
 use Rattle.plane_laws.specs.Along.{IsAway, HoldsAlong}
 use Rattle.point_set.specs.Sides.{slope}
 use Rattle.ring_laws.proofs.Parity.Flip.{HasSign}
-use Rattle.ring_laws.proofs.Parity.Ring.{Misses, inside_stays, inside_flips, some_same}
+use Rattle.ring_laws.proofs.Parity.Ring.{Misses, inside_stays, inside_flips}
+use Rattle.figure_laws.proofs.Lists.Places.{some_same}
 use Rattle.plane_laws.proofs.Near.Near.{IsNear, near_mix}
 use Rattle.ring_laws.proofs.Room.Edges.{HoldBoth, HasRoom, room}
 use Rattle.plane_laws.proofs.Near.Away.{away_point, away_point_is, away_near, far_for, between_in_cone}

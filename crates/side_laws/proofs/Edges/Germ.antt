@@ -18,7 +18,7 @@ use Rattle.point_set.specs.Validity.{IsAtPlace, IsOnEdge}
 use Rattle.plane_laws.specs.Along.{IsInCone}
 use Rattle.point_set.specs.Sides.{slope}
 use Rattle.ring_laws.proofs.Parity.Flip.{HasSign, signed_nonzero}
-use Rattle.ring_laws.proofs.Parity.Ring.{some_same}
+use Rattle.figure_laws.proofs.Lists.Places.{some_same}
 use Rattle.plane_laws.proofs.Near.Parted.{turn_ends}
 use Rattle.ring_laws.proofs.Germs.Edges.{AreJoined, joined_between, shift_self, rise_self}
 use Rattle.ring_laws.proofs.Germs.Areas.{clear_from}

@@ -16,7 +16,8 @@ use Rattle.point_set.specs.Rings.{is_same_position, edge_before, edges_after, ed
 use Rattle.point_set.specs.Lines.{last_after}
 use Rattle.point_set.specs.Shape.{IsClosed}
 use Rattle.point_set.specs.Validity.{IsAtPlace, IsOnEdge, IsJoint, CrossesItself}
-use Rattle.ring_laws.proofs.Parity.Ring.{same_position, closed_last, some_same}
+use Rattle.figure_laws.proofs.Lists.Places.{same_position, some_same}
+use Rattle.ring_laws.proofs.Parity.Ring.{closed_last}
 
 -- ---- the chain of edges
 -- each edge begins where the one before it ends, the first at p; the last ends at q

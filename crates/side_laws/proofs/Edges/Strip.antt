@@ -22,7 +22,8 @@ use Rattle.point_set.specs.Validity.{IsAtPlace, IsOnEdge}
 use Rattle.plane_laws.specs.Along.{IsAway, HoldsAlong}
 use Rattle.ring_laws.proofs.Parity.OneEdge.{AreApart}
 use Rattle.ring_laws.proofs.Parity.Flip.{HasSign, turn_mix, signed_nonzero}
-use Rattle.ring_laws.proofs.Parity.Ring.{inside_stays, some_same}
+use Rattle.ring_laws.proofs.Parity.Ring.{inside_stays}
+use Rattle.figure_laws.proofs.Lists.Places.{some_same}
 use Rattle.plane_laws.proofs.Near.Parted.{Affine, at_point, affine_mix, affine_on}
 use Rattle.plane_laws.proofs.Near.Near.{positive_near, reach_of}
 use Rattle.plane_laws.proofs.Near.Away.{away_point, away_point_is, away_near, far_for, some_weight}

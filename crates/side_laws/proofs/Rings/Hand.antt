@@ -10,7 +10,7 @@ use Rattle.point_set.specs.Rings.{edges_of}
 use Rattle.point_set.specs.Shape.{IsClosed}
 use Rattle.point_set.specs.Validity.{IsAtPlace, CrossesItself}
 use Rattle.point_set.specs.Sides.{IsInsideHand}
-use Rattle.ring_laws.proofs.Parity.Ring.{some_same}
+use Rattle.figure_laws.proofs.Lists.Places.{some_same}
 use Rattle.plane_laws.proofs.Near.Away.{away_point}
 use Rattle.side_laws.proofs.Edges.Places.{IsSimple, ring_is_simple}
 use Rattle.side_laws.proofs.Edges.Beside.{beside_at}

@@ -21,7 +21,7 @@ use Rattle.point_set.specs.Validity.{IsAtPlace, IsOnEdge}
 use Rattle.plane_laws.specs.Along.{IsAway, HoldsAlong, IsInCone}
 use Rattle.point_set.specs.Sides.{slope}
 use Rattle.ring_laws.proofs.Parity.Flip.{HasSign, signed_nonzero}
-use Rattle.ring_laws.proofs.Parity.Ring.{some_same}
+use Rattle.figure_laws.proofs.Lists.Places.{some_same}
 use Rattle.plane_laws.proofs.Near.Parted.{AreParted, off_parted, turn_by, turn_by_is}
 use Rattle.plane_laws.proofs.Near.Near.{positive_near, reach_of, IsNear, size_of}
 use Rattle.plane_laws.proofs.Near.Away.{away_point, away_point_is, away_near, far_for}

@@ -23,7 +23,8 @@ use Rattle.point_set.specs.Sides.{slope}
 use Rattle.ring_laws.proofs.Parity.Tests.{same_tests}
 use Rattle.ring_laws.proofs.Parity.OneEdge.{heights, level_by, tells_low, rise_p}
 use Rattle.ring_laws.proofs.Parity.Flip.{HasSign, crossing_of, crosses_by_sign, crosses_none}
-use Rattle.ring_laws.proofs.Parity.Ring.{misses_start, some_same}
+use Rattle.ring_laws.proofs.Parity.Ring.{misses_start}
+use Rattle.figure_laws.proofs.Lists.Places.{some_same}
 use Rattle.plane_laws.proofs.Near.Parted.{Affine, at_point}
 use Rattle.plane_laws.proofs.Near.Near.{positive_near, reach_of}
 use Rattle.plane_laws.proofs.Near.Away.{away_rise, away_near, far_for}

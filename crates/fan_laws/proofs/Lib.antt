@@ -1,0 +1,3 @@
+pub mod Fans
+pub mod Walks
+pub mod Labels

@@ -1,0 +1,2 @@
+-- The edges of a figure with their owners.
+pub mod Owners

@@ -1,0 +1,3 @@
+-- Lists by places.
+pub mod Search
+pub mod Places

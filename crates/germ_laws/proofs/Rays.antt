@@ -1,0 +1,4 @@
+-- Rays round a point: every direction is on one or in a sector.
+pub mod Around
+pub mod Ways
+pub mod Neighbours
