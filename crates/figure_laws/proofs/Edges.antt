@@ -1,2 +1,3 @@
 -- The edges of a figure with their owners.
 pub mod Owners
+pub mod Lists

@@ -1,4 +1,3 @@
 pub mod Sectors
 pub mod Room
 pub mod Rays
-pub mod Cover

@@ -2,3 +2,4 @@
 pub mod Around
 pub mod Ways
 pub mod Neighbours
+pub mod Places

@@ -3,3 +3,4 @@ pub mod Starry
 pub mod Germs
 pub mod TwoSteps
 pub mod Lonely
+pub mod Ways

@@ -13,3 +13,6 @@ pub mod Sectors
 pub mod Germ
 pub mod Sides
 pub mod Cover
+pub mod Nodes
+pub mod Samples
+pub mod Visible

@@ -37,7 +37,8 @@ use Rattle.side_laws.proofs.Areas.Hands.{area_shaped}
 use Rattle.fan_order.specs.declared.section.Section.{Section}
 use Rattle.fan_order.specs.Sections.{IsSectionToward, IsSectionAt, AreHandsAlike, IsFanOf}
 use Rattle.germ_laws.proofs.Room.Starry.{not_here}
-use Rattle.germ_laws.proofs.Cover.Sectors.{item_at, cone_way}
+use Rattle.germ_laws.proofs.Rays.Places.{item_at}
+use Rattle.germ_laws.proofs.Room.Ways.{cone_way}
 use Rattle.germ_laws.proofs.Sectors.BesideRay.{IsBare}
 use Rattle.kind_laws.proofs.Hands.InSector.{hand_in_sector, moving}
 use Rattle.kind_laws.proofs.Hands.BeforeRay.{hand_before_ray}

@@ -13,13 +13,14 @@ use Rattle.point_set.specs.Location.{IsAreaInterior}
 use Rattle.point_set.specs.Sectors.{IsInSector, sectors_of}
 use Rattle.fan_order.specs.declared.section.Section.{Section}
 use Rattle.fan_order.specs.Sections.{IsSectorInside, IsFanOf}
-use Rattle.germ_laws.proofs.Cover.BesideRay.{not_uncovered, covered_where_interior}
+use Rattle.kind_laws.proofs.Cover.BesideRay.{not_uncovered, covered_where_interior}
 use Rattle.fan_laws.proofs.Fans.Rays.{free_sector}
-use Rattle.germ_laws.proofs.Cover.Neighbourhood.{around_from_interior}
+use Rattle.kind_laws.proofs.Cover.Neighbourhood.{around_from_interior}
 use Rattle.germ_laws.proofs.Rays.Neighbours.{within_sector}
-use Rattle.germ_laws.proofs.Cover.Inside.{IsNoAreaInteriorAt}
+use Rattle.kind_laws.proofs.Cover.Inside.{IsNoAreaInteriorAt}
 use Rattle.fan_laws.proofs.Walks.SectorHands.{IsFull, IsEmptySector, full_or_empty, inside_is_interior}
-use Rattle.germ_laws.proofs.Cover.Sectors.{item_at, in_sector_of, interior_from_sectors}
+use Rattle.germ_laws.proofs.Rays.Places.{item_at, in_sector_of}
+use Rattle.kind_laws.proofs.Cover.Sectors.{interior_from_sectors}
 
 -- ---- each sector has a direction, the one without rays too
 eastward : Direction

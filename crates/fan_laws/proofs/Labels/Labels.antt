@@ -26,14 +26,14 @@ use Rattle.figure_laws.proofs.Points.Kinds.{one_kind}
 use Rattle.fan_order.specs.declared.section.Section.{Section}
 use Rattle.fan_order.specs.Sections.{IsSectorInside, IsLineAlong, IsFanOf}
 use Rattle.fan_laws.specs.Parts.{IsSectorFull, IsSectorPart, IsRayPart}
-use Rattle.germ_laws.proofs.Cover.BesideRay.{interior_is_open}
+use Rattle.kind_laws.proofs.Cover.BesideRay.{interior_is_open}
 use Rattle.germ_laws.proofs.Room.Lonely.{points_off, ends_off}
 use Rattle.fan_laws.proofs.Labels.LineGerms.{no_line_in_sector, no_line_on_ray, line_on_ray, line_or_not}
 use Rattle.germ_laws.proofs.Rays.Neighbours.{before_below, HasWithin, within_sector}
 use Rattle.fan_laws.proofs.Labels.OnRays.{interior_on_ray, boundary_after, boundary_before, bare_on_ray}
-use Rattle.germ_laws.proofs.Cover.Inside.{IsNoAreaInteriorAt, interior_of_one}
+use Rattle.kind_laws.proofs.Cover.Inside.{IsNoAreaInteriorAt, interior_of_one}
 use Rattle.fan_laws.proofs.Walks.SectorHands.{IsFull, IsEmptySector, full_or_empty}
-use Rattle.germ_laws.proofs.Cover.Sectors.{HasItem, item_at, in_sector_of}
+use Rattle.germ_laws.proofs.Rays.Places.{HasItem, item_at, in_sector_of}
 
 -- no rule makes a point without a line's end boundary
 pub no_rule_of_none : (rule : Rule) → is_boundary_count rule 0 ≡ false

@@ -35,14 +35,14 @@ use Rattle.germ_laws.proofs.Sectors.Rays.{off_sector}
 use Rattle.fan_order.specs.declared.section.Section.{Section}
 use Rattle.fan_order.specs.Sections.{IsSectionToward, IsLineAlong, IsFanOf}
 use Rattle.germ_laws.proofs.Room.Starry.{not_here}
-use Rattle.germ_laws.proofs.Cover.Sectors.{cone_way}
+use Rattle.germ_laws.proofs.Room.Ways.{cone_way}
 use Rattle.kind_laws.proofs.Hands.InSector.{on_far}
 use Rattle.figure_laws.proofs.Edges.Owners.{HasPlace, IsEdgeOf, IsLineEdge, edge_of_owner, owner_has_edge}
 use Rattle.germ_laws.proofs.Rays.Ways.{one_way, HasRay, ray_of_any, place_of_seg}
 use Rattle.fan_laws.proofs.Fans.Rays.{section_cone, figure_rays}
 use Rattle.fan_laws.proofs.Fans.Hands.{line_hand, hand_line, at_point}
 use Rattle.germ_laws.proofs.Rays.Neighbours.{between_rays}
-use Rattle.germ_laws.proofs.Cover.Inside.{on_some_edge}
+use Rattle.kind_laws.proofs.Cover.Inside.{on_some_edge}
 use Rattle.figure_laws.proofs.Lists.Search.{HasSome, search_for}
 use Rattle.fan_laws.proofs.Walks.Walks.{same_which, same_direction}
 

@@ -25,14 +25,15 @@ use Rattle.ring_laws.proofs.Germs.Areas.{HasGerm, germ_exists, germ_one}
 use Rattle.side_laws.proofs.Areas.Hands.{area_shaped}
 use Rattle.fan_order.specs.declared.section.Section.{Section}
 use Rattle.fan_order.specs.Sections.{IsSectorInside, IsFanOf}
-use Rattle.germ_laws.proofs.Cover.Germs.{HasCover, cover_of, cover_or_none}
-use Rattle.germ_laws.proofs.Cover.Sectors.{HasItem, item_at, covered_at, in_sector_of, is_exterior, not_exterior}
+use Rattle.kind_laws.proofs.Cover.Germs.{HasCover, cover_of, cover_or_none}
+use Rattle.germ_laws.proofs.Rays.Places.{HasItem, item_at, in_sector_of}
+use Rattle.kind_laws.proofs.Cover.Sectors.{covered_at, is_exterior, not_exterior}
 use Rattle.germ_laws.proofs.Sectors.BesideRay.{sector_before_is_closed, sector_after_is_closed, bare_after}
-use Rattle.germ_laws.proofs.Cover.BesideRay.{not_uncovered, covered_where_interior, IsSectorCovered, interior_between, bare_left, bare_right}
+use Rattle.kind_laws.proofs.Cover.BesideRay.{not_uncovered, covered_where_interior, IsSectorCovered, interior_between, bare_left, bare_right}
 use Rattle.fan_laws.proofs.Fans.Rays.{free_sector}
 use Rattle.fan_laws.proofs.Fans.Hands.{shape, sided, hand_after, hand_before, bare_along}
 use Rattle.germ_laws.proofs.Rays.Neighbours.{before_below, next_of_before, HasWithin, within_sector}
-use Rattle.germ_laws.proofs.Cover.Inside.{IsNoAreaInteriorAt}
+use Rattle.kind_laws.proofs.Cover.Inside.{IsNoAreaInteriorAt}
 use Rattle.fan_laws.proofs.Walks.SectorHands.{inside_is_interior, sector_by_hands}
 use Rattle.figure_laws.proofs.Lists.Search.{HasSome}
 use Rattle.fan_laws.proofs.Walks.Walks.{IsAreaAlong, find_along}

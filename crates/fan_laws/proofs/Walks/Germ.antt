@@ -25,7 +25,7 @@ use Rattle.point_set.specs.Shape.{IsAreaShaped}
 use Rattle.figure_laws.proofs.Lists.Places.{some_same}
 use Rattle.fan_order.specs.declared.section.Section.{Section}
 use Rattle.fan_order.specs.Sections.{IsStep, IsWalk, IsFanOf}
-use Rattle.germ_laws.proofs.Cover.Sectors.{HasItem, item_at}
+use Rattle.germ_laws.proofs.Rays.Places.{HasItem, item_at}
 use Rattle.germ_laws.proofs.Sectors.BesideRay.{IsBare, bare_after, bare_before}
 use Rattle.fan_laws.proofs.Fans.Rays.{free_sector}
 use Rattle.fan_laws.proofs.Fans.Hands.{shape, sided, hand_after, bare_along, HasAreaRay, boundary_section}

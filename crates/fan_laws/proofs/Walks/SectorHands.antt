@@ -23,17 +23,17 @@ use Rattle.side_laws.proofs.Areas.Hands.{area_shaped}
 use Rattle.fan_order.specs.declared.section.Section.{Section}
 use Rattle.fan_order.specs.Sections.{IsWalk, IsSectorInside, IsFanOf}
 use Rattle.germ_laws.proofs.Sectors.Closed.{settled, off_edges}
-use Rattle.germ_laws.proofs.Cover.BesideRay.{not_uncovered, covered_where_interior}
+use Rattle.kind_laws.proofs.Cover.BesideRay.{not_uncovered, covered_where_interior}
 use Rattle.germ_laws.proofs.Room.Germs.{on_boundary}
-use Rattle.germ_laws.proofs.Cover.Germs.{HasCover, cover_or_none}
-use Rattle.germ_laws.proofs.Cover.Sectors.{not_exterior}
+use Rattle.kind_laws.proofs.Cover.Germs.{HasCover, cover_or_none}
+use Rattle.kind_laws.proofs.Cover.Sectors.{not_exterior}
 use Rattle.germ_laws.proofs.Rays.Ways.{HasRay}
 use Rattle.fan_laws.proofs.Fans.Rays.{ray_of_section, IsSectionOf, section_of_area}
 use Rattle.fan_laws.proofs.Fans.Hands.{sided, hands_alike, HasArea, area_of_section, HasAreaRay, boundary_section}
 use Rattle.germ_laws.proofs.Rays.Neighbours.{sectors_some}
 use Rattle.fan_laws.proofs.Walks.Walks.{HasWalk, walk_exists}
 use Rattle.fan_laws.proofs.Walks.Germ.{walk_is_germ}
-use Rattle.germ_laws.proofs.Cover.Inside.{interior_of_one, IsNoAreaInteriorAt, on_some_edge}
+use Rattle.kind_laws.proofs.Cover.Inside.{interior_of_one, IsNoAreaInteriorAt, on_some_edge}
 
 module _ (which : Which) (f : Figure) (v : Point) (sections : List Section) (rays : List Dir) (fan : IsFanOf which f v sections rays)
     (i : ℕ) (below : i < sectors_of rays) (d : Direction) (in_d : IsInSector rays i d) where

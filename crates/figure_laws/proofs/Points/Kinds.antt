@@ -14,7 +14,7 @@ pub interior_is_covered : {f : Figure} {p : Point} → IsAreaInterior f p → is
 interior_is_covered {f} {p} inside = inside.covered p (in_from_strictly_in inside.strictly)
 
 -- ---- off the areas, by three tests: on a line, boundary by the rule, at a point
-abbrev kind_by : Bool → Bool → Bool → DimLoc
+abbrev pub kind_by : Bool → Bool → Bool → DimLoc
 kind_by true true at = kind.LineBoundary
 kind_by true false at = kind.LineInterior
 kind_by false boundary true = kind.PointInterior

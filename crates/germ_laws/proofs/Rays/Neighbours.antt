@@ -14,7 +14,7 @@ use Rattle.plane_laws.proofs.Near.Near.{size_of}
 use Rattle.germ_laws.proofs.Sectors.Rays.{one_at}
 use Rattle.germ_laws.proofs.Room.TwoSteps.{both_ways}
 use Rattle.germ_laws.proofs.Sectors.Closed.{just_left}
-use Rattle.germ_laws.proofs.Cover.Sectors.{left_turn, left_turn_left}
+use Rattle.germ_laws.proofs.Room.Ways.{left_turn, left_turn_left}
 
 -- ---- the sector before a ray
 pub before_below : (n i : ℕ) → i < n → sector_before n i < n

@@ -20,7 +20,7 @@ use Rattle.plane_laws.proofs.Near.Away.{away_near, far_for, between_in_cone, som
 use Rattle.ring_laws.proofs.Germs.Areas.{location_stays}
 use Rattle.germ_laws.proofs.Room.Starry.{starry_beside}
 
-bool_same : (b c : Bool) → (b ≡ true → c ≡ true) → (c ≡ true → b ≡ true) → b ≡ c
+pub bool_same : (b c : Bool) → (b ≡ true → c ≡ true) → (c ≡ true → b ≡ true) → b ≡ c
 bool_same true c h k = sym (h refl)
 bool_same false true h k = k refl
 bool_same false false h k = refl

@@ -26,7 +26,7 @@ use Rattle.germ_laws.proofs.Sectors.Germ.{same_in_sector}
 use Rattle.germ_laws.proofs.Room.Germs.{germ_room}
 use Rattle.germ_laws.proofs.Room.TwoSteps.{both_ways, germ_from_step}
 use Rattle.germ_laws.proofs.Sectors.Closed.{just_left, settled, off_edges}
-use Rattle.germ_laws.proofs.Cover.Sectors.{left_turn, left_turn_left}
+use Rattle.germ_laws.proofs.Room.Ways.{left_turn, left_turn_left}
 use Rattle.germ_laws.proofs.Sectors.JustRight.{right_turn, right_turn_right, right_bent, just_right}
 
 -- how far along r the points v + r/n are near enough for two steps

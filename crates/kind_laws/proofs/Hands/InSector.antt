@@ -42,7 +42,7 @@ use Rattle.side_laws.proofs.Edges.Germ.{between_not_start, between_not_end}
 use Rattle.side_laws.proofs.Edges.Places.{IsSimple, ring_is_simple, alone_within}
 use Rattle.germ_laws.proofs.Room.Starry.{near_self, ray_order, not_here}
 use Rattle.germ_laws.proofs.Room.Germs.{away_cone}
-use Rattle.germ_laws.proofs.Cover.Sectors.{left_turn, left_turn_left}
+use Rattle.germ_laws.proofs.Room.Ways.{left_turn, left_turn_left}
 use Rattle.figure_laws.proofs.Edges.Owners.{HasRing, ring_of}
 use Rattle.germ_laws.proofs.Sectors.BesideRay.{reach, germ_after}
 
@@ -134,23 +134,23 @@ slope_sign k w m c bx by rx ry tx ty hk hw hm hc e f h =
     ⊞ scaled (minus (var 8)) (same (var 0 ⊗ (var 1 ⊗ var 5)) (var 2 ⊗ (var 3 ⊗ var 7)) f)) refl
 
 -- the steps: k steps to the end are c of r, m of them are w of the edge
-step_ahead : (k m w i j step whole r : ℤ) → k *ℤ step ≡ (i *ℤ r) +ℤ (j *ℤ r) → m *ℤ step ≡ w *ℤ whole → k *ℤ (w *ℤ whole) ≡ m *ℤ ((i +ℤ j) *ℤ r)
+pub step_ahead : (k m w i j step whole r : ℤ) → k *ℤ step ≡ (i *ℤ r) +ℤ (j *ℤ r) → m *ℤ step ≡ w *ℤ whole → k *ℤ (w *ℤ whole) ≡ m *ℤ ((i +ℤ j) *ℤ r)
 step_ahead k m w i j step whole r e f =
     same_from (var 0 ⊗ (var 2 ⊗ var 6)) (var 1 ⊗ ((var 3 ⊕ var 4) ⊗ var 7)) (k ∷ m ∷ w ∷ i ∷ j ∷ step ∷ whole ∷ r ∷ [])
     (scaled (var 1) (same (var 0 ⊗ var 5) (var 3 ⊗ var 7 ⊕ var 4 ⊗ var 7) e) ⊞ scaled (minus (var 0)) (same (var 1 ⊗ var 5) (var 2 ⊗ var 6) f)) refl
 
-step_back : (k m w i j step back whole r : ℤ) → k *ℤ step ≡ (i *ℤ r) +ℤ (j *ℤ r) → step ≡ neg_ℤ back → m *ℤ back ≡ w *ℤ whole → k *ℤ (w *ℤ neg_ℤ whole) ≡ m *ℤ ((i +ℤ j) *ℤ r)
+pub step_back : (k m w i j step back whole r : ℤ) → k *ℤ step ≡ (i *ℤ r) +ℤ (j *ℤ r) → step ≡ neg_ℤ back → m *ℤ back ≡ w *ℤ whole → k *ℤ (w *ℤ neg_ℤ whole) ≡ m *ℤ ((i +ℤ j) *ℤ r)
 step_back k m w i j step back whole r e b f =
     same_from (var 0 ⊗ (var 2 ⊗ minus (var 7))) (var 1 ⊗ ((var 3 ⊕ var 4) ⊗ var 8)) (k ∷ m ∷ w ∷ i ∷ j ∷ step ∷ back ∷ whole ∷ r ∷ [])
     (scaled (var 1) (same (var 0 ⊗ var 5) (var 3 ⊗ var 8 ⊕ var 4 ⊗ var 8) e)
     ⊞ scaled (minus (var 0 ⊗ var 1)) (same (var 5) (minus (var 6)) b)
     ⊞ scaled (var 0) (same (var 1 ⊗ var 6) (var 2 ⊗ var 7) f)) refl
 
-shift_back : (a v : Point) → shift v a ≡ neg_ℤ (shift a v)
+pub shift_back : (a v : Point) → shift v a ≡ neg_ℤ (shift a v)
 unfolding shift
 shift_back a v = omega (arith, linear)
 
-rise_back : (a v : Point) → rise v a ≡ neg_ℤ (rise a v)
+pub rise_back : (a v : Point) → rise v a ≡ neg_ℤ (rise a v)
 unfolding rise
 rise_back a v = omega (arith, linear)
 

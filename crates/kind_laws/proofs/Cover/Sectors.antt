@@ -1,5 +1,5 @@
 -- Where every sector is covered, the point is interior to the union of the areas.
-use Rattle.std.proofs.Common.{◌≡◌, ℕ, zero, suc, ◌+◌, ◌%◌, ◌<◌, ℤ, pos, ◌+ℤ◌, ◌*ℤ◌, neg_ℤ, ◌<ℤ◌, Bool, true, false, List, [], ◌∷◌, length, ap, refl, sym, ◌∙◌, subst, arith}
+use Rattle.std.proofs.Common.{◌≡◌, ℕ, zero, suc, ◌+◌, ◌%◌, ◌<◌, ℤ, pos, ◌<ℤ◌, Bool, true, false, List, [], ◌∷◌, length, ap, refl, sym, ◌∙◌, subst, arith}
 use Rattle.std.specs.List.{AllPairs}
 use Rattle.std.specs.declared.cmp.Ordering.TheVariants.{Less}
 use Rattle.std.proofs.lemmas.Bool.{true≢false, or_left, or_right}
@@ -7,65 +7,31 @@ use Rattle.std.proofs.lemmas.Option.{slice_get_within}
 use Rattle.im_matrix.specs.declared.Loc.{Loc}
 use Rattle.im_matrix.specs.declared.Loc.TheVariants.{Interior, Boundary, Exterior}
 use Rattle.whole_algebra.proofs.Laws.{linear}
-use Rattle.whole_algebra.proofs.Polynomials.{var, num, ◌⊕◌, ◌⊖◌, ◌⊗◌, minus, identity}
-use Rattle.whole_algebra.proofs.Certificates.{same, same_from, scaled, ◌⊞◌}
-use Rattle.whole_algebra.proofs.Signs.{<ℤ_weaken, <ℤ_apart, pos-*-pos}
-use Rattle.plane_laws.specs.Plane.{Point, rise, shift}
+use Rattle.whole_algebra.proofs.Signs.{<ℤ_apart}
+use Rattle.plane_laws.specs.Plane.{Point}
 use Rattle.plane_laws.specs.Directions.{Direction, bend_of, PointSameWay, IsStrictlyWithin}
 use Rattle.plane_exact.specs.Orders.{direction_of, compare_angles}
 use Rattle.plane_exact.specs.declared.dir.Dir.{Dir}
 use Rattle.point_set.specs.declared.figure.Area.{Area}
 use Rattle.point_set.specs.declared.figure.Figure.{Figure}
-use Rattle.plane_laws.specs.Along.{HoldsAlong, IsInCone}
+use Rattle.plane_laws.specs.Along.{HoldsAlong}
 use Rattle.point_set.specs.Germ.{IsGerm}
 use Rattle.point_set.specs.Location.{location, is_not_exterior, is_covered_by, is_covered, IsAreaInterior}
-use Rattle.point_set.specs.Sectors.{IsInSector, HasNoEdgeWithin, sectors_of}
+use Rattle.point_set.specs.Sectors.{HasNoEdgeWithin}
 use Rattle.point_set.specs.Shape.{IsAreaShaped, IsWellShaped}
 use Rattle.point_set.specs.Validity.{IsAtPlace}
 use Rattle.figure_laws.proofs.Lists.Places.{some_same}
 use Rattle.plane_laws.proofs.Near.Near.{size_of}
-use Rattle.plane_laws.proofs.Near.Away.{away_point, away_point_is, away_near, far_for}
 use Rattle.ring_laws.proofs.Germs.Areas.{germ_exists, germ_one}
-use Rattle.ring_laws.proofs.Germs.Edges.{squares}
 use Rattle.side_laws.proofs.Areas.Hands.{area_shaped}
-use Rattle.germ_laws.proofs.Room.Germs.{germ_room, away_cone}
-use Rattle.germ_laws.proofs.Cover.Neighbourhood.{interior_from_around}
+use Rattle.kind_laws.proofs.Cover.Neighbourhood.{interior_from_around}
 use Rattle.germ_laws.proofs.Rays.Around.{Around, on_ray, in_sector, around}
 use Rattle.germ_laws.proofs.Room.TwoSteps.{both_ways}
 use Rattle.germ_laws.proofs.Sectors.Closed.{just_left, settled, off_edges, sector_is_closed}
-use Rattle.germ_laws.proofs.Cover.Germs.{HasCover, cover_of}
+use Rattle.kind_laws.proofs.Cover.Germs.{HasCover, cover_of}
 use Rattle.point_set.specs.Cover.{AreSectorsCovered}
-
--- ---- the germ is said of the way
-pub cone_way : {v : Point} {d e : Direction} {p : Point} → PointSameWay d e → IsInCone v d d p → IsInCone v e e p
-cone_way {v} {d} {e} {p} q c = record {
-  i = q.n *ℤ (c.i +ℤ c.j);
-  j = pos 0;
-  first = <ℤ_weaken weight;
-  second = omega (arith, linear);
-  some = omega (arith, linear, weight);
-  times = q.m *ℤ c.times;
-  positive = pos-*-pos q.some c.positive;
-  across = along c.times c.i c.j q.m q.n d.x e.x (shift v p) c.across q.across;
-  above = along c.times c.i c.j q.m q.n d.y e.y (rise v p) c.above q.above;
-}
-  where
-    weight : pos 0 <ℤ (q.n *ℤ (c.i +ℤ c.j))
-    weight = pos-*-pos q.other c.some
-
-    along : (k i j m n x y z : ℤ) → k *ℤ z ≡ (i *ℤ x) +ℤ (j *ℤ x) → m *ℤ x ≡ n *ℤ y → (m *ℤ k) *ℤ z ≡ ((n *ℤ (i +ℤ j)) *ℤ y) +ℤ (pos 0 *ℤ y)
-    along k i j m n x y z e f =
-        same_from ((var 3 ⊗ var 0) ⊗ var 7) ((var 4 ⊗ (var 1 ⊕ var 2)) ⊗ var 6 ⊕ num (pos 0) ⊗ var 6) (k ∷ i ∷ j ∷ m ∷ n ∷ x ∷ y ∷ z ∷ [])
-        (scaled (var 3) (same (var 0 ⊗ var 7) (var 1 ⊗ var 5 ⊕ var 2 ⊗ var 5) e)
-        ⊞ scaled (var 1 ⊕ var 2) (same (var 3 ⊗ var 5) (var 4 ⊗ var 6) f)) refl
-
-pub germ_of_way : (area : Area) → IsAreaShaped area → (v : Point) (d e : Direction) → PointSameWay d e → (g : Loc) → IsGerm area v d g → IsGerm area v e g
-germ_of_way area shaped v d e q g is =
-    let r = germ_room area shaped v in
-    let n = is.from + far_for d r.n in
-    let away = away_point_is v d n in
-    subst (λ h. IsGerm area v e h) (is.holds (suc n) (omega arith) (away_point v d n) away)
-    (r.germ r.n (omega arith) (away_point v d n) (away_near r.n (omega arith) away) e (cone_way q (away_cone (omega arith) away)))
+use Rattle.germ_laws.proofs.Room.Ways.{germ_of_way, left_turn, left_turn_left}
+use Rattle.germ_laws.proofs.Rays.Places.{HasItem, item_at, in_sector_of}
 
 -- ---- one area covers for all
 pub covered_at : (areas : List Area) (place : ℕ) (area : Area) → IsAtPlace areas place area → (q : Point) → is_not_exterior (location area q) ≡ true → is_covered_by q areas ≡ true
@@ -80,27 +46,6 @@ is_exterior Exterior h = refl
 
 pub not_exterior : {g : Loc} → is_not_exterior g ≡ true → g ≡ Exterior → ⊥
 not_exterior h e = true≢false (sym h ∙ ap is_not_exterior e)
-
--- ---- places
-pub record HasItem (rays : List Dir) (i : ℕ) : Type 0 where
-  pub item : Dir
-  pub is : IsAtPlace rays i item
-
-pub item_at : (rays : List Dir) (i : ℕ) → i < length rays → HasItem rays i
-item_at [] i h = absurd (omega (arith, h))
-item_at (r ∷ rays) zero h = record { item = r; is = refl }
-item_at (r ∷ rays) (suc i) h = let k = item_at rays i (omega (arith, h)) in record { item = k.item; is = k.is }
-
-pub in_sector_of : (rays : List Dir) (i : ℕ) (r s : Dir) (d : Direction) → IsAtPlace rays i r → IsAtPlace rays ((i + 1) % length rays) s → IsStrictlyWithin (direction_of r) (direction_of s) d → (i < sectors_of rays) × IsInSector rays i d
-in_sector_of [] i r s d r_is s_is w = cc
-in_sector_of (ray ∷ rays) i r s d r_is s_is w = (slice_get_within (ray ∷ rays) i r r_is, record { ray = r; next = s; ray_is = r_is; next_is = s_is; holds = w })
-
-pub left_turn : Direction → Direction
-left_turn d = record { x = neg_ℤ d.y; y = d.x; moves = λ z. d.moves (z.1, let e = z.0 in omega (arith, linear, e)) }
-
-pub left_turn_left : (d : Direction) → pos 0 <ℤ bend_of d (left_turn d)
-unfolding bend_of left_turn
-left_turn_left d = subst (λ (z : ℤ). pos 0 <ℤ z) (identity (var 0 ⊗ var 0 ⊕ var 1 ⊗ var 1) (var 0 ⊗ var 0 ⊖ var 1 ⊗ minus (var 1)) (d.x ∷ d.y ∷ []) refl) (squares d.x d.y d.moves)
 
 module _ (f : Figure) (shaped : IsWellShaped f) (v : Point) (rays : List Dir) (ascending : AllPairs (λ d e. compare_angles d e ≡ Less) rays)
     (clear : (place : ℕ) (area : Area) → IsAtPlace f.areas place area → (i : ℕ) (r s : Dir) → IsAtPlace rays i r → IsAtPlace rays ((i + 1) % length rays) s → HasNoEdgeWithin area v (direction_of r) (direction_of s))

@@ -21,12 +21,12 @@ use Rattle.figure_laws.proofs.Points.Kinds.{interior_is_covered}
 use Rattle.plane_laws.proofs.Near.Near.{IsNear, size_of, size_is}
 use Rattle.germ_laws.proofs.Room.Germs.{away_cone}
 use Rattle.germ_laws.proofs.Room.Starry.{near_self}
-use Rattle.germ_laws.proofs.Cover.Neighbourhood.{HasCoverRoom, cover_room, around_from_interior, interior_from_around}
+use Rattle.kind_laws.proofs.Cover.Neighbourhood.{HasCoverRoom, cover_room, around_from_interior, interior_from_around}
 use Rattle.germ_laws.proofs.Room.TwoSteps.{near_near, both_ways, two_steps, two_steps_cone}
 use Rattle.germ_laws.proofs.Sectors.Closed.{just_left}
 use Rattle.germ_laws.proofs.Sectors.JustRight.{right_turn, right_turn_right, right_bent, just_right}
 use Rattle.plane_laws.proofs.Near.Triangles.{HoldsNear, holds_near}
-use Rattle.germ_laws.proofs.Cover.Sectors.{left_turn, left_turn_left}
+use Rattle.germ_laws.proofs.Room.Ways.{left_turn, left_turn_left}
 
 -- what is covered along a direction isn't uncovered along it
 pub not_uncovered : (f : Figure) (v : Point) (d : Direction) → HoldsAlong (λ q. is_covered f q ≡ true) v d

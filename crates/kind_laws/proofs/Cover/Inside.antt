@@ -17,8 +17,8 @@ use Rattle.point_set.specs.Validity.{IsAtPlace}
 use Rattle.figure_laws.proofs.Lists.Places.{some_same}
 use Rattle.side_laws.proofs.Areas.Hands.{area_shaped}
 use Rattle.germ_laws.proofs.Sectors.Closed.{settled}
-use Rattle.germ_laws.proofs.Cover.Neighbourhood.{interior_from_around}
-use Rattle.germ_laws.proofs.Cover.Sectors.{covered_at}
+use Rattle.kind_laws.proofs.Cover.Neighbourhood.{interior_from_around}
+use Rattle.kind_laws.proofs.Cover.Sectors.{covered_at}
 
 -- ---- what is inside one area is interior to the union
 off_inside : (area : Area) (v : Point) → location area v ≡ Interior → is_on_edges v (edges_of_rings (rings_of area)) ≡ false

@@ -39,7 +39,7 @@ cover_room (area ∷ areas) shaped v =
     }
 
 -- ---- the direction of another point
-pub way_to : (v q : Point) → ¬ IsSamePoint v q → Direction
+unfoldable pub way_to : (v q : Point) → ¬ IsSamePoint v q → Direction
 way_to v q apart = record { x = shift v q; y = rise v q; moves = λ z. apart (same_from_steps v q z.0 z.1) }
 
 pub way_to_is : (v q : Point) (apart : ¬ IsSamePoint v q) → IsInCone v (way_to v q apart) (way_to v q apart) q
