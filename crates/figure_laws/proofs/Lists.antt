@@ -1,3 +1,5 @@
 -- Lists by places.
 pub mod Search
 pub mod Places
+pub mod Least
+pub mod Items

@@ -1,4 +1,4 @@
--- What stays from one point to another, and the law of the visible node on an edge.
+-- What stays from one point to another, and what nodes see.
 use Rattle.std.specs.Prelude.{◌<◌, ◌≡◌, ◌⊎◌, true, false, ℕ, List}
 use Rattle.im_matrix.specs.declared.Cell.{Cell}
 use Rattle.plane_laws.specs.Plane.{Point, IsSamePoint, IsOnSegment, IsStrictlyBetween}
@@ -26,33 +26,15 @@ pub record AreValid (a b : Figure) : Type 0 where
   pub a_valid : IsValid a
   pub b_valid : IsValid b
 
--- Along a segment that meets no edge and no node the pair stays.
-abbrev pub ClaimPairStays : Type 0
-ClaimPairStays =
-    (a b : Figure) → IsWellShaped a → IsWellShaped b → (rule : Rule) (p q : Point)
-    → ((m : Point) → IsOnSegment p q m → (is_on_edges m (segs_of_both a b) ≡ false) × (¬ IsNode a b m))
-    → (c : Cell) → IsInCell a b rule c p → IsInCell a b rule c q
-
--- Between two points of one edge with no node from the one to the other, the pair stays.
-abbrev pub ClaimPairStaysOnEdge : Type 0
-ClaimPairStaysOnEdge =
-    (a b : Figure) → AreValid a b → (rule : Rule) (place : ℕ) (e : Seg) → IsAtPlace (segs_of_both a b) place e
-    → (p q : Point) → IsOnEdge e p → IsOnEdge e q → ((m : Point) → IsOnSegment p q m → ¬ IsNode a b m)
-    → (c : Cell) → IsInCell a b rule c p → IsInCell a b rule c q
-
--- Where a point lies is decided.
-abbrev pub ClaimKindExists : Type 0
-ClaimKindExists = (f : Figure) → IsWellShaped f → (rule : Rule) (p : Point) → (k : DimLoc) × IsKind f rule p k
-
--- The kind of a point's location, and so the part in which it lies, settles along each direction from each point.
-abbrev pub ClaimFigureGermExists : Type 0
-ClaimFigureGermExists =
-    (f : Figure) → IsWellShaped f → IsValid f → (rule : Rule) (v : Point) (d : Direction)
-    → (k : DimLoc) × HoldsAlong (λ p. IsKind f rule p k) v d
-
 -- The same of two figures: a pair germ exists along every direction, at every point.
 abbrev pub LawGermExists : Figure → Figure → Rule → Type 0
 LawGermExists a b rule = (v : Point) (d : Direction) → (c : Cell) × IsPairGerm a b rule v d c
+
+-- The pair stays along every way that meets no edge and no node.
+abbrev pub PairStays : Figure → Figure → Rule → Type 0
+PairStays a b rule =
+    (p q : Point) → ((m : Point) → IsOnSegment p q m → (is_on_edges m (segs_of_both a b) ≡ false) × (¬ IsNode a b m))
+    → (c : Cell) → IsInCell a b rule c p → IsInCell a b rule c q
 
 -- All nodes stand in a finite list.
 pub record AreAllNodes (a b : Figure) (nodes : List Point) : Type 0 where
@@ -89,12 +71,6 @@ LawSectorIsOne a b rule =
 abbrev pub LawGermHoldsSegment : Figure → Figure → Rule → Type 0
 LawGermHoldsSegment a b rule =
     (v : Point) (d : Direction) (c : Cell) → IsPairGerm a b rule v d c → HoldsSegment (IsInCell a b rule c)
-
--- What holds at all points strictly between v and p holds along the direction from v to p.
-abbrev pub ClaimSeenIsGerm : Type 0
-ClaimSeenIsGerm =
-    (a b : Figure) (rule : Rule) (v p : Point) (d : Direction) → IsInCone v d d p → (c : Cell) → IsInCell a b rule c p
-    → IsSeenFrom a b rule v p → IsPairGerm a b rule v d c
 
 -- A node sees p off the edges: p lies from it along no edge direction.
 pub record IsVisibleOff (a b : Figure) (rule : Rule) (p : Point) : Type 0 where

@@ -32,7 +32,6 @@ use Rattle.germ_laws.proofs.Room.TwoSteps.{both_ways}
 use Rattle.kind_laws.proofs.Cover.Sectors.{covered_at, interior_from_sectors}
 use Rattle.germ_laws.proofs.Rays.Places.{HasItem, item_at, in_sector_of}
 use Rattle.germ_laws.proofs.Room.Ways.{left_turn, left_turn_left}
-use Rattle.point_set.specs.Visible.{ClaimKindExists}
 use Rattle.kind_laws.proofs.Location.EdgeRays.{HasAreaRays, area_rays}
 
 -- ---- a direction in each sector
@@ -177,5 +176,5 @@ module _ (f : Figure) (shaped : IsWellShaped f) (v : Point) where
       by_cover (inr off) = (uncovered_kind f rule v, kind_of_uncovered f rule v off)
 
 -- in the words of the claim
-pub kind_is_decided : ClaimKindExists
+pub kind_is_decided : (f : Figure) → IsWellShaped f → (rule : Rule) (p : Point) → (k : DimLoc) × IsKind f rule p k
 kind_is_decided f shaped rule p = kind_exists f shaped p rule

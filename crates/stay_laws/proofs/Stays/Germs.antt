@@ -26,7 +26,7 @@ use Rattle.ring_laws.proofs.Room.Edges.{HasRoom, room}
 use Rattle.germ_laws.proofs.Room.Germs.{IsStarry, starry, cone_mix, away_cone}
 use Rattle.germ_laws.proofs.Room.Starry.{not_here}
 use Rattle.point_set.specs.Nodes.{all_positions, segs_of}
-use Rattle.point_set.specs.Visible.{AreValid, ClaimFigureGermExists, LawGermExists}
+use Rattle.point_set.specs.Visible.{AreValid, LawGermExists}
 use Rattle.stay_laws.proofs.Even.Even.{IsEvenBetween}
 use Rattle.kind_laws.proofs.Location.Decided.{kind_exists}
 use Rattle.stay_laws.proofs.Stays.OnEdge.{kind_carried}
@@ -132,7 +132,9 @@ module _ (f : Figure) (shaped : IsWellShaped f) (valid : IsValid f) (rule : Rule
       )
 
 -- in the words of the claim
-pub figure_germ_exists : ClaimFigureGermExists
+pub figure_germ_exists :
+    (f : Figure) → IsWellShaped f → IsValid f → (rule : Rule) (v : Point) (d : Direction)
+    → (k : DimLoc) × HoldsAlong (λ p. IsKind f rule p k) v d
 figure_germ_exists f shaped valid rule v d = kind_settles f shaped valid rule v d
 
 -- ---- two figures: a pair germ exists along every direction, at every point

@@ -19,7 +19,7 @@ use Rattle.germ_laws.proofs.Sectors.Closed.{settled}
 use Rattle.kind_laws.proofs.Cover.Neighbourhood.{interior_from_around}
 use Rattle.kind_laws.proofs.Cover.Sectors.{covered_at}
 use Rattle.point_set.specs.Nodes.{rings_of_areas, all_positions, segs_of, IsNode, position}
-use Rattle.point_set.specs.Visible.{ClaimPairStays}
+use Rattle.point_set.specs.Visible.{PairStays}
 use Rattle.figure_laws.proofs.Edges.Lists.{segs_are, rings_append, none_append}
 use Rattle.stay_laws.proofs.Even.Even.{alike_off, IsEvenBetween, even_cover, even_kind}
 
@@ -128,7 +128,7 @@ no_position a b m free = by_test (is_at_some m (all_positions a ++ all_positions
     by_test false h = none_append (is_at m) (all_positions a) (all_positions b) h
 
 -- V3
-pub pair_stays : ClaimPairStays
+pub pair_stays : (a b : Figure) → IsWellShaped a → IsWellShaped b → (rule : Rule) → PairStays a b rule
 pair_stays a b a_shaped b_shaped rule p q bare c in_cell = record {
   in_a =
       part_of_kinds a rule p q (kind_stays a a_shaped rule p q

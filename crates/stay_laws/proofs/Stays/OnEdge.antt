@@ -1,28 +1,30 @@
 -- V4. Between two points of one edge with no node from the one to the other, the pair of a point's locations stays.
-use Rattle.std.proofs.Common.{◌≡◌, Bool, true, false, List, [], ◌∷◌, ap, refl, sym, ◌∙◌}
+use Rattle.std.proofs.Common.{◌≡◌, Bool, true, false, List, [], ◌∷◌, ap, refl, sym, ◌∙◌, ℕ}
 use Rattle.std.proofs.lemmas.Bool.Decides.{not_from_Decides}
 use Rattle.plane_laws.proofs.Segments.Mixes.{end_on_segment, segment_flip}
 use Rattle.plane_laws.proofs.Points.Same.{same_sym, Decides-is_same_point}
-use Rattle.plane_laws.specs.Plane.{Point, IsSamePoint, is_same_point}
+use Rattle.plane_laws.specs.Plane.{Point, IsSamePoint, is_same_point, IsOnSegment}
 use Rattle.plane_exact.specs.declared.point.Seg.{Seg}
 use Rattle.point_set.specs.declared.dim_loc.DimLoc.{DimLoc}
 use Rattle.point_set.specs.declared.figure.Figure.{Figure}
 use Rattle.point_set.specs.declared.rule.Rule.{Rule}
 use Rattle.point_set.specs.Location.{is_not_exterior, IsAreaInterior, IsKind}
 use Rattle.point_set.specs.Shape.{IsWellShaped}
-use Rattle.point_set.specs.Validity.{IsValid}
+use Rattle.point_set.specs.Validity.{IsValid, IsAtPlace, IsOnEdge}
 use Rattle.figure_laws.proofs.Points.Kinds.{interior_is_covered}
 use Rattle.figure_laws.proofs.Points.Same.{IsKind-same}
 use Rattle.germ_laws.proofs.Room.Germs.{AreAllAlike}
 use Rattle.kind_laws.proofs.Cover.Neighbourhood.{around_from_interior, interior_from_around}
 use Rattle.kind_laws.proofs.Cover.Germs.{cover_of}
 use Rattle.kind_laws.proofs.Cover.Sectors.{covered_at}
-use Rattle.point_set.specs.Nodes.{segs_of}
-use Rattle.point_set.specs.Visible.{ClaimPairStaysOnEdge}
+use Rattle.point_set.specs.Nodes.{segs_of, segs_of_both, IsNode}
+use Rattle.point_set.specs.Visible.{AreValid}
 use Rattle.stay_laws.proofs.Even.Even.{IsEvenBetween, even_cover, even_kind}
 use Rattle.stay_laws.proofs.Edges.Stays.{even_on_edge}
 use Rattle.stay_laws.proofs.Even.Germs.{germ_carried}
 use Rattle.stay_laws.proofs.Stays.OffEdges.{part_of_kinds}
+use Rattle.im_matrix.specs.declared.Cell.{Cell}
+use Rattle.point_set.specs.Relation.{IsInCell}
 
 -- ---- the way back
 -- edges alike at p and two other points are alike at these
@@ -72,7 +74,10 @@ kind_carried f shaped valid rule p q even k is = by_test (is_same_point p q) ref
 
 -- ---- V4
 -- the way from p to q is even for each of the two figures
-pub pair_stays_on_edge : ClaimPairStaysOnEdge
+pub pair_stays_on_edge :
+    (a b : Figure) → AreValid a b → (rule : Rule) (place : ℕ) (e : Seg) → IsAtPlace (segs_of_both a b) place e
+    → (p q : Point) → IsOnEdge e p → IsOnEdge e q → ((m : Point) → IsOnSegment p q m → ¬ IsNode a b m)
+    → (c : Cell) → IsInCell a b rule c p → IsInCell a b rule c q
 pair_stays_on_edge a b valid rule place e e_is p q e_p e_q free c in_cell =
     let even = even_on_edge a b place e e_is p q e_p e_q free in
     record {
