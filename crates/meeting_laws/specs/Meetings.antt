@@ -10,12 +10,12 @@ pub record IsFirstMeeting (edges : List Seg) (p t q : Point) : Type 0 where
   pub on : is_on_edges q edges ≡ true
   pub first : (m : Point) → IsOnSegment p q m → is_on_edges m edges ≡ true → IsSamePoint m q
 
-abbrev pub ClaimFirstOfOne : Type 0
-ClaimFirstOfOne =
+abbrev pub LawFirstOfOne : Type 0
+LawFirstOfOne =
     (e : Seg) (p t : Point) → is_on_edge p e ≡ false
     → ((m : Point) → IsOnSegment p t m → is_on_edge m e ≡ false) ⊎ ((q : Point) × IsFirstMeeting (e ∷ []) p t q)
 
-abbrev pub ClaimFirstMeeting : Type 0
-ClaimFirstMeeting =
+abbrev pub LawFirstMeeting : Type 0
+LawFirstMeeting =
     (edges : List Seg) (p t : Point) → is_on_edges p edges ≡ false
     → ((m : Point) → IsOnSegment p t m → is_on_edges m edges ≡ false) ⊎ ((q : Point) × IsFirstMeeting edges p t q)

@@ -10,12 +10,12 @@ use Rattle.point_set.specs.Nodes.{IsNode, segs_of_both}
 use Rattle.point_set.specs.Visible.{AreAllNodes}
 
 -- Whether a point is a node is decided.
-abbrev pub ClaimNodeIsDecided : Type 0
-ClaimNodeIsDecided = (a b : Figure) (p : Point) → IsNode a b p ⊎ (¬ IsNode a b p)
+abbrev pub LawNodeIsDecided : Type 0
+LawNodeIsDecided = (a b : Figure) (p : Point) → IsNode a b p ⊎ (¬ IsNode a b p)
 
 -- There is such a list.
-abbrev pub ClaimNodesAreFinite : Type 0
-ClaimNodesAreFinite = (a b : Figure) → (nodes : List Point) × AreAllNodes a b nodes
+abbrev pub LawNodesAreFinite : Type 0
+LawNodesAreFinite = (a b : Figure) → (nodes : List Point) × AreAllNodes a b nodes
 
 -- The first hit: on the way from p to x, a node, there is a first point on an edge or at a node.
 pub record IsFirstHit (a b : Figure) (p x h : Point) : Type 0 where
@@ -24,8 +24,8 @@ pub record IsFirstHit (a b : Figure) (p x h : Point) : Type 0 where
   pub first : (m : Point) → IsOnSegment p h m → ¬ IsSamePoint m h → (is_on_edges m (segs_of_both a b) ≡ false) × (¬ IsNode a b m)
 
 -- There is one, from any point off the edges.
-abbrev pub ClaimFirstHit : Type 0
-ClaimFirstHit =
+abbrev pub LawFirstHit : Type 0
+LawFirstHit =
     (a b : Figure) (p x : Point) → is_on_edges p (segs_of_both a b) ≡ false → IsNode a b x → (h : Point) × IsFirstHit a b p x h
 
 -- u and v are the two ends of one of the edges.
@@ -51,8 +51,8 @@ pub record Sees (edges : List Seg) (nodes : List Point) (p : Point) : Type 0 whe
 -- The seen node. p is on no edge; x is the first point of an edge on the way from p, and all edges that hold it lie on the line
 -- of x and a, a node to the left of the way; every crossing of that line's piece from x to a with an edge that
 -- comes from its right is a node. Then some node w has no edge strictly between p and w.
-abbrev pub ClaimSeenNode : Type 0
-ClaimSeenNode =
+abbrev pub LawSeenNode : Type 0
+LawSeenNode =
     (edges : List Seg) (nodes : List Point) (p x a : Point) → pos 0 <ℤ turn p x a → IsAmong nodes a
     → ((u v : Point) → IsEnd edges u v → IsAmong nodes u)
     → is_on_edges p edges ≡ false

@@ -1,5 +1,8 @@
 -- Items at places of a list, and positions that a test finds equal.
-use Rattle.std.proofs.Common.{◌≡◌, ◌-◌, true}
+use Rattle.std.proofs.lemmas.Option.{slice_get_within, get_or_from_slice_get}
+use Rattle.std.specs.List.{All}
+use Rattle.point_set.specs.Validity.{IsAtPlace}
+use Rattle.std.proofs.Common.{◌≡◌, ◌-◌, true, List, ℕ, subst}
 use Rattle.std.specs.Prelude.{Some}
 use Rattle.std.specs.Ordering.{int_eq}
 use Rattle.std.proofs.lemmas.Bool.{and_parts}
@@ -18,3 +21,7 @@ same_position p q h = go (and_parts (int_eq p.x q.x) (int_eq p.y q.y) h)
 
 pub some_same : {T : Type 0} {x y : T} → Some x ≡ Some y → x ≡ y
 some_same e = cc
+
+-- what holds of all items holds of the one at a place
+pub all_at : {X : Type 0} (P : X → Type 0) (xs : List X) (i : ℕ) (x : X) → All P xs → IsAtPlace xs i x → P x
+all_at P xs i x all is = subst P (get_or_from_slice_get xs i x x is) (all i x (slice_get_within xs i x is))

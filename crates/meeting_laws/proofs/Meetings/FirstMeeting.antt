@@ -12,7 +12,7 @@ use Rattle.plane_laws.specs.Plane.{Point, IsOnSegment, IsSamePoint}
 use Rattle.plane_exact.specs.declared.point.Seg.{Seg}
 use Rattle.point_set.specs.Rings.{is_on_edge, is_on_edges}
 use Rattle.ring_laws.proofs.Germs.Areas.{segment_within}
-use Rattle.meeting_laws.specs.Meetings.{IsFirstMeeting, ClaimFirstOfOne, ClaimFirstMeeting}
+use Rattle.meeting_laws.specs.Meetings.{IsFirstMeeting, LawFirstOfOne, LawFirstMeeting}
 
 -- two points, each on the way to the other, are one
 pub both_ways : {p q r : Point} → IsOnSegment p q r → IsOnSegment p r q → IsSamePoint r q
@@ -41,7 +41,7 @@ of_one e m on = go (either e [] m on)
     go (inl h) = h
     go (inr h) = cc
 
-pub first_meeting : ClaimFirstOfOne → ClaimFirstMeeting
+pub first_meeting : LawFirstOfOne → LawFirstMeeting
 first_meeting one [] p t off = inl (λ m on. refl)
 first_meeting one (e ∷ edges) p t off = by_rest (first_meeting one edges p t parts.1)
   where

@@ -24,8 +24,8 @@ use Rattle.point_set.specs.Rings.{is_on_edge, is_on_edges}
 use Rattle.ring_laws.proofs.Germs.Edges.{on_true}
 use Rattle.plane_laws.proofs.Near.Parted.{turn_ends}
 use Rattle.std.proofs.lemmas.Bool.{true≢false, false_from_ne_true, or_left}
-use Rattle.meeting_laws.specs.Meetings.{IsFirstMeeting, ClaimFirstOfOne}
-use Rattle.meeting_laws.proofs.Meetings.FirstMeeting.{of_one}
+use Rattle.meeting_laws.specs.Meetings.{IsFirstMeeting, LawFirstOfOne, LawFirstMeeting}
+use Rattle.meeting_laws.proofs.Meetings.FirstMeeting.{first_meeting, of_one}
 use Rattle.meeting_laws.proofs.Ways.PointsInOrder.{at_most_or, before_at_most, not_before, both_at_most, before_then, at_most_trans, at_most_before}
 use Rattle.plane_laws.proofs.Segments.Crossings.{apart_left, apart_right, crossing_w, on_first, on_second, only}
 
@@ -273,7 +273,7 @@ nearest c d p t off = by_sign ((turn c d t *ℤ p.w) -ℤ (turn c d p *ℤ t.w))
                     (sym ((Decides-is_on_segment p t c).1 (segment_same (same_refl p) (same_refl t)
                     (same_sym (on_segment_of_same joined held)) on)) ∙ f))
 
-pub first_of_one : ClaimFirstOfOne
+pub first_of_one : LawFirstOfOne
 first_of_one e p t off = go (nearest (point_of e.a) (point_of e.b) p t
     (λ on. true≢false (sym ((Decides-is_on_segment (point_of e.a) (point_of e.b) p).1 on) ∙ off)))
   where
@@ -292,3 +292,7 @@ first_of_one e p t off = go (nearest (point_of e.a) (point_of e.b) p t
             (on_true (of_one e m on_m));
       },
     )
+
+-- the first meeting with several edges
+pub meeting : LawFirstMeeting
+meeting = first_meeting first_of_one

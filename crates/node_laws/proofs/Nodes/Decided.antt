@@ -14,7 +14,7 @@ use Rattle.point_set.specs.Lines.{is_at_some}
 use Rattle.point_set.specs.Rings.{is_on_edge}
 use Rattle.point_set.specs.Validity.{IsAtPlace, IsOnEdge}
 use Rattle.point_set.specs.Nodes.{IsNode, IsCrossing, IsOnlyCommonPoint, position, crossing, segs_of_both}
-use Rattle.node_laws.specs.Seen.{ClaimNodeIsDecided}
+use Rattle.node_laws.specs.Seen.{LawNodeIsDecided}
 use Rattle.node_laws.proofs.Nodes.Edges.{edge_true}
 use Rattle.figure_laws.proofs.Lists.Least.{SomeItem, NoItem, search}
 use Rattle.meeting_laws.proofs.Ways.OneLine.{zero_or_not, same_or_not, another, one_line}
@@ -130,7 +130,7 @@ module _ (a b : Figure) (p : Point) (nowhere : is_at_some p (positions_of_both a
       go (inr n) = inr (not_node n)
 
 -- whether a point is a node is decided
-pub node_is_decided : ClaimNodeIsDecided
+pub node_is_decided : LawNodeIsDecided
 node_is_decided a b p = go (is_at_some p (positions_of_both a b)) refl
   where
     go : (t : Bool) → is_at_some p (positions_of_both a b) ≡ t → IsNode a b p ⊎ (¬ IsNode a b p)

@@ -18,7 +18,7 @@ use Rattle.point_set.specs.Validity.{IsAtPlace, IsOnEdge}
 use Rattle.plane_laws.proofs.Segments.Crossings.{only}
 use Rattle.point_set.specs.Nodes.{IsNode, position, crossing, segs_of_both}
 use Rattle.point_set.specs.Visible.{AreAllNodes}
-use Rattle.node_laws.specs.Seen.{ClaimNodesAreFinite}
+use Rattle.node_laws.specs.Seen.{LawNodesAreFinite}
 use Rattle.figure_laws.proofs.Lists.Items.{some_left, some_right, some_map, AreKept, filtered}
 use Rattle.figure_laws.proofs.Lists.Least.{SomeItem, by_place}
 use Rattle.node_laws.proofs.Nodes.Decided.{IsOnLineOf, crossing_apart, node_is_decided, node_same}
@@ -194,5 +194,5 @@ module _ (a b : Figure) where
           (k.place, k.item, k.item_is, subst (λ z. IsSamePoint v z) (sym k.is_so) s.is_so)
 
 -- all nodes of two figures stand in a finite list
-pub nodes_are_finite : ClaimNodesAreFinite
+pub nodes_are_finite : LawNodesAreFinite
 nodes_are_finite a b = all_nodes a b

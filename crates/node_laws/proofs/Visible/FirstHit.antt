@@ -12,7 +12,7 @@ use Rattle.point_set.specs.Validity.{IsAtPlace}
 use Rattle.meeting_laws.specs.Meetings.{IsFirstMeeting}
 use Rattle.point_set.specs.Nodes.{IsNode, segs_of_both}
 use Rattle.point_set.specs.Visible.{AreAllNodes}
-use Rattle.node_laws.specs.Seen.{IsFirstHit, ClaimFirstHit}
+use Rattle.node_laws.specs.Seen.{IsFirstHit, LawFirstHit}
 use Rattle.meeting_laws.proofs.Ways.AlongWay.{one_nearer}
 use Rattle.meeting_laws.proofs.Meetings.FirstMeeting.{both_ways, first_meeting}
 use Rattle.meeting_laws.proofs.Meetings.FirstOfOne.{first_of_one}
@@ -93,7 +93,7 @@ module _ (a b : Figure) (p x n : Point) (near : IsNearestNode a b p x n) where
           let same = near.only m (segment_within (start_on_segment p n) meeting.on_way within) node in
           same_trans same (same_sym (both_ways meeting.on_way (segment_same (same_refl p) (same_refl q) same within)))
 
-pub first_hit : ClaimFirstHit
+pub first_hit : LawFirstHit
 first_hit a b p x off node = by_node (nearest_node a b p x node)
   where
     by_node : (n : Point) × IsNearestNode a b p x n → (h : Point) × IsFirstHit a b p x h

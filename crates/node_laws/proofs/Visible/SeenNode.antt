@@ -18,7 +18,7 @@ use Rattle.plane_laws.specs.Plane.{Point, IsSamePoint, IsMix, IsOnSegment, IsStr
 use Rattle.plane_exact.specs.Places.{point_of}
 use Rattle.plane_exact.specs.declared.point.Seg.{Seg}
 use Rattle.point_set.specs.Rings.{is_on_edges}
-use Rattle.node_laws.specs.Seen.{IsEnd, IsAmong, Sees, ClaimSeenNode}
+use Rattle.node_laws.specs.Seen.{IsEnd, IsAmong, Sees, LawSeenNode}
 use Rattle.meeting_laws.proofs.Ways.Corners.{turn_back, fan, angle_parts, parts_w, on_side, at_corner, blend, toward_start}
 use Rattle.node_laws.proofs.Nodes.Edges.{off_end}
 use Rattle.figure_laws.proofs.Lists.Least.{Least, least_of, NoItem}
@@ -500,5 +500,5 @@ module _ (edges : List Seg) (nodes : List Point) (p x a : Point) (broad : pos 0 
   }
 
 -- some node is seen over all edges
-pub seen_node : ClaimSeenNode
+pub seen_node : LawSeenNode
 seen_node = sees

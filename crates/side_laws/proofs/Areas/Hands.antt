@@ -1,9 +1,8 @@
 -- The inside of an area lies on the hand of its shell's inside at the shell's edges, and on the other hand at a hole's edges.
 use Rattle.std.proofs.Common.{◌≡◌, ◌⊎◌, inl, inr, ℕ, zero, suc, ◌+◌, ◌<◌, pos, ◌*ℤ◌, ◌<ℤ◌, Bool, true, false, List, [], ◌∷◌, ◌++◌, ap, refl, sym, ◌∙◌, subst, arith}
-use Rattle.std.specs.List.{All, list_any}
+use Rattle.std.specs.List.{list_any}
 use Rattle.std.specs.Prelude.{slice_get}
 use Rattle.std.proofs.lemmas.Bool.{or_parts, or_from, or_left, or_right, cases_eq, cases_order, false_from_ne_true}
-use Rattle.std.proofs.lemmas.Option.{get_or_from_slice_get, slice_get_within}
 use lib.IntN.{*ℤ-zero}
 use Rattle.im_matrix.specs.declared.Loc.TheVariants.{Exterior}
 use Rattle.whole_algebra.proofs.Laws.{linear}
@@ -36,6 +35,7 @@ use Rattle.ring_laws.proofs.Germs.Edges.{shift_self, rise_self, on_true}
 use Rattle.side_laws.proofs.Edges.Places.{off_by_places, off_edge}
 use Rattle.side_laws.proofs.Edges.Germ.{edge_turn, edge_turn_on}
 use Rattle.side_laws.proofs.Edges.Beside.{left_way, right_way, left_way_slope, right_way_slope, held_at, side_of}
+use Rattle.figure_laws.proofs.Lists.Places.{all_at}
 
 -- ---- near a point that is on no edge of a ring, all points are inside it or none is
 near_self : (v : Point) (n : ℕ) → IsNear v n v
@@ -117,10 +117,6 @@ pub record AreRingsClean (area : Area) : Type 0 where
   pub unshared : ¬ RingsShareSegment area
   pub within : ¬ HasHoleOutside area
   pub unlapped : ¬ HasHolesThatOverlap area
-
--- a valid figure's areas are so
-all_at : {X : Type 0} (P : X → Type 0) (xs : List X) (i : ℕ) (x : X) → All P xs → IsAtPlace xs i x → P x
-all_at P xs i x all is = subst P (get_or_from_slice_get xs i x x is) (all i x (slice_get_within xs i x is))
 
 pub area_shaped : (f : Figure) → IsWellShaped f → (place : ℕ) (area : Area) → IsAtPlace f.areas place area → IsAreaShaped area
 area_shaped f shaped place area is = all_at IsAreaShaped f.areas place area shaped.areas is
