@@ -1,4 +1,7 @@
--- Inequalities of polynomials over ℤ, by certificates. Known facts are polynomials that are positive, at least 0, or 0 under one list of values; they are added, `⊞`, and multiplied, `⊠`. A goal follows where its difference is such a combination (`less_from`, `at_most_from`, `same_from`), or where its denial and the facts come to a strict 0 < 0 (`less_by`, `at_most_by`, `impossible_by`). Either is seen by computation: the last argument is `refl`.
+-- Inequalities of polynomials over ℤ, by certificates. Known facts are polynomials that are positive, at least 0, or 0 under
+-- one list of values; they are added, `⊞`, and multiplied, `⊠`. A goal follows where its difference is such a combination
+-- (`less_from`, `at_most_from`, `same_from`), or where its denial and the facts come to a strict 0 < 0 (`less_by`,
+-- `at_most_by`, `impossible_by`). Either is seen by computation: the last argument is `refl`.
 --
 --     rearranged : (a b c d : ℤ) → a <ℤ b → c <ℤ d → (a *ℤ d +ℤ b *ℤ c) <ℤ (a *ℤ c +ℤ b *ℤ d)
 --     rearranged a b c d h k =
@@ -130,7 +133,8 @@ difference p q r vs e = omega (arith, linear, is_zero (p ⊖ q ⊖ r) vs e)
 pub less_from : (p q : Poly) (vs : List ℤ) {r : Poly} → Fact above r vs → is_none (normal (q ⊖ p ⊖ r)) ≡ true → value p vs <ℤ value q vs
 less_from p q vs {r} f e = let h : pos 0 <ℤ value r vs = f.holds in omega (arith, linear, difference q p r vs e, h)
 
-pub at_most_from : (p q : Poly) (vs : List ℤ) {r : Poly} → Fact not_below r vs → is_none (normal (q ⊖ p ⊖ r)) ≡ true → value p vs ≤ℤ value q vs
+pub at_most_from : (p q : Poly) (vs : List ℤ) {r : Poly} → Fact not_below r vs → is_none (normal (q ⊖ p ⊖ r)) ≡ true
+    → value p vs ≤ℤ value q vs
 at_most_from p q vs {r} f e = let h : pos 0 ≤ℤ value r vs = f.holds in omega (arith, linear, difference q p r vs e, h)
 
 pub same_from : (p q : Poly) (vs : List ℤ) {r : Poly} → Fact nothing r vs → is_none (normal (p ⊖ q ⊖ r)) ≡ true → value p vs ≡ value q vs
@@ -143,8 +147,10 @@ impossible_by {P = P} vs {r} f e = absurd none_such
     none_such : ⊥
     none_such = let h : pos 0 <ℤ value r vs = f.holds in omega (arith, linear, is_zero r vs e, h)
 
-pub less_by : (p q : Poly) (vs : List ℤ) {r : Poly} → (Fact not_below (p ⊖ q) vs → Fact above r vs) → is_none (normal r) ≡ true → value p vs <ℤ value q vs
+pub less_by : (p q : Poly) (vs : List ℤ) {r : Poly} → (Fact not_below (p ⊖ q) vs → Fact above r vs) → is_none (normal r) ≡ true
+    → value p vs <ℤ value q vs
 less_by p q vs f e = by_lt_z (value p vs) (value q vs) (λ h. h) (λ h. impossible_by vs (f (at_most q p h)) e)
 
-pub at_most_by : (p q : Poly) (vs : List ℤ) {r : Poly} → (Fact above (p ⊖ q) vs → Fact above r vs) → is_none (normal r) ≡ true → value p vs ≤ℤ value q vs
+pub at_most_by : (p q : Poly) (vs : List ℤ) {r : Poly} → (Fact above (p ⊖ q) vs → Fact above r vs) → is_none (normal r) ≡ true
+    → value p vs ≤ℤ value q vs
 at_most_by p q vs f e = by_lt_z (value q vs) (value p vs) (λ h. impossible_by vs (f (less q p h)) e) (λ h. h)

@@ -7,7 +7,8 @@ use Rattle.whole_algebra.proofs.Signs.{by_order, pos-*-pos, pos-*-neg, pos_facto
 use lib.IntN.{*ℤ-zero}
 
 pub int_cmp_less : (a b : ℤ) → a <ℤ b → int_cmp a b ≡ Less
-int_cmp_less a b h = let e : true ≡ int_lt a b = omega (arith, linear, h) in ap (λ (t : Bool). cond t Less (cond (int_lt b a) Greater Equal)) (sym e)
+int_cmp_less a b h = let e : true ≡ int_lt a b = omega (arith, linear, h) in
+    ap (λ (t : Bool). cond t Less (cond (int_lt b a) Greater Equal)) (sym e)
 
 pub int_cmp_greater : (a b : ℤ) → b <ℤ a → int_cmp a b ≡ Greater
 int_cmp_greater a b h =
@@ -35,11 +36,13 @@ same_int_cmp a b c d k l hk hl e = by_order a b
     falls h = let p : (b -ℤ a) <ℤ pos 0 = omega (arith, linear, h) in neg_factor l (d -ℤ c) hl (subst (λ z. z <ℤ pos 0) e (pos-*-neg hk p))
 
     stays : a ≡ b → d -ℤ c ≡ pos 0
-    stays h = let p : b -ℤ a ≡ pos 0 = omega (arith, linear, h) in zero_factor l (d -ℤ c) (pos_nonzero hl) (sym e ∙ ap (λ z. k *ℤ z) p ∙ *ℤ-zero k)
+    stays h = let p : b -ℤ a ≡ pos 0 = omega (arith, linear, h) in
+        zero_factor l (d -ℤ c) (pos_nonzero hl) (sym e ∙ ap (λ z. k *ℤ z) p ∙ *ℤ-zero k)
 
 -- what an answer says of the two numbers
 pub less_int_cmp : (a b : ℤ) → int_cmp a b ≡ Less → a <ℤ b
-less_int_cmp a b e = by_order a b (λ h. h) (λ h. absurd (clash (sym (int_cmp_equal a b h) ∙ e))) (λ h. absurd (clash' (sym (int_cmp_greater a b h) ∙ e)))
+less_int_cmp a b e = by_order a b (λ h. h) (λ h. absurd (clash (sym (int_cmp_equal a b h) ∙ e)))
+    (λ h. absurd (clash' (sym (int_cmp_greater a b h) ∙ e)))
   where
     clash : Equal ≡ Less → ⊥
     clash h = cc
@@ -48,7 +51,8 @@ less_int_cmp a b e = by_order a b (λ h. h) (λ h. absurd (clash (sym (int_cmp_e
     clash' h = cc
 
 pub greater_int_cmp : (a b : ℤ) → int_cmp a b ≡ Greater → b <ℤ a
-greater_int_cmp a b e = by_order a b (λ h. absurd (clash (sym (int_cmp_less a b h) ∙ e))) (λ h. absurd (clash' (sym (int_cmp_equal a b h) ∙ e))) (λ h. h)
+greater_int_cmp a b e = by_order a b (λ h. absurd (clash (sym (int_cmp_less a b h) ∙ e)))
+    (λ h. absurd (clash' (sym (int_cmp_equal a b h) ∙ e))) (λ h. h)
   where
     clash : Less ≡ Greater → ⊥
     clash h = cc
@@ -57,7 +61,8 @@ greater_int_cmp a b e = by_order a b (λ h. absurd (clash (sym (int_cmp_less a b
     clash' h = cc
 
 pub equal_int_cmp : (a b : ℤ) → int_cmp a b ≡ Equal → a ≡ b
-equal_int_cmp a b e = by_order a b (λ h. absurd (clash (sym (int_cmp_less a b h) ∙ e))) (λ h. h) (λ h. absurd (clash' (sym (int_cmp_greater a b h) ∙ e)))
+equal_int_cmp a b e = by_order a b (λ h. absurd (clash (sym (int_cmp_less a b h) ∙ e))) (λ h. h)
+    (λ h. absurd (clash' (sym (int_cmp_greater a b h) ∙ e)))
   where
     clash : Less ≡ Equal → ⊥
     clash h = cc

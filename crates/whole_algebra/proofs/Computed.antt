@@ -1,4 +1,6 @@
--- What the code of an arithmetic function computes. In a goal a signed operand x of width w reads `to_z w (of_z w x)`, and so does the result of each operation. `Computes t z m` says that the code's term t is exactly z, and that z is at most m in absolute value; it is built by one word for each operation, along the code.
+-- What the code of an arithmetic function computes. In a goal a signed operand x of width w reads `to_z w (of_z w x)`, and so
+-- does the result of each operation. `Computes t z m` says that the code's term t is exactly z, and that z is at most m in
+-- absolute value; it is built by one word for each operation, along the code.
 --
 --     read w z h refl        a parameter, a field or a result z, where h : unsigned_abs z ≤ m
 --     ranged w z f           the same of full range, where f : FitsSigned w z
@@ -10,7 +12,8 @@
 --     d.is                   the goal that the result is z.  bounded d refl: that it is at most n in absolute value
 --     less_test, less_fails, at_most_test, at_most_fails, same_test     `a < b`, `a <= b` and `a == b`, in a goal or as a branch has them
 --
--- `refl` sees by computation that the bound is below half the width's power, so bounds are to be numerals, or powers of numerals. The answers of
+-- `refl` sees by computation that the bound is below half the width's power, so bounds are to be numerals, or powers of
+-- numerals. The answers of
 --
 --     fn cross(a: i64, b: i64, c: i64, d: i64) -> i64
 --         requires a_small { unsigned_abs a ≤ 2 ^ 24 } ..
@@ -46,7 +49,8 @@ pub record Computes (t z : ℤ) (m : ℕ) : Type 0 where
   pub small : nat_abs z ≤ m
 
 pub fits : (w : Width) {t z : ℤ} {m : ℕ} → Computes t z m → ltb m (2 ^ hbits w) ≡ true → FitsSigned w t
-fits w {t} {z} {m} e b = subst (λ (x : ℤ). FitsSigned w x) (sym e.is) (fits_signed_from_abs w z (omega (arith, e.small, ltb-true m (2 ^ hbits w) b)))
+fits w {t} {z} {m} e b = subst (λ (x : ℤ). FitsSigned w x) (sym e.is)
+    (fits_signed_from_abs w z (omega (arith, e.small, ltb-true m (2 ^ hbits w) b)))
 
 pub stored : (w : Width) {t z : ℤ} {m : ℕ} → Computes t z m → ltb m (2 ^ hbits w) ≡ true → Computes (to_z w (of_z w t)) z m
 stored w {t} {z} {m} e b = record { is = to_z-of_z (fits w e b) ∙ e.is; small = e.small }
@@ -86,7 +90,8 @@ pub difference : {s t x y : ℤ} {m n : ℕ} → Computes s x m → Computes t y
 difference {x} {y} d e = record { is = λ i. d.is i -ℤ e.is i; small = omega (arith, d.small, e.small, abs_difference x y) }
 
 pub product : {s t x y : ℤ} {m n : ℕ} → Computes s x m → Computes t y n → Computes (s *ℤ t) (x *ℤ y) (m * n)
-product {x} {y} {m} {n} d e = record { is = λ i. d.is i *ℤ e.is i; small = subst (λ (k : ℕ). k ≤ m * n) (sym (unsigned_abs-mul x y)) (mul-le-mul d.small e.small) }
+product {x} {y} {m} {n} d e = record
+    { is = λ i. d.is i *ℤ e.is i; small = subst (λ (k : ℕ). k ≤ m * n) (sym (unsigned_abs-mul x y)) (mul-le-mul d.small e.small) }
 
 -- the code's `-t`
 pub negation : {t z : ℤ} {m : ℕ} → Computes t z m → Computes (pos 0 -ℤ t) (neg_ℤ z) m
@@ -118,7 +123,8 @@ pub at_most_fails : {s t x y : ℤ} {m n : ℕ} → Computes s x m → Computes 
 at_most_fails {x} {y} d e h = let g : le_z x y ≡ false = (λ i. le_z (sym d.is i) (sym e.is i)) ∙ h in omega (arith, ints, g)
 
 -- `a == b` compares the bits
-pub same_test : (w : Width) {s t x y : ℤ} {m n : ℕ} → Computes s x m → ltb m (2 ^ hbits w) ≡ true → Computes t y n → ltb n (2 ^ hbits w) ≡ true → IsTrue (nat_eq (of_z w s) (of_z w t)) ↔ (x ≡ y)
+pub same_test : (w : Width) {s t x y : ℤ} {m n : ℕ} → Computes s x m → ltb m (2 ^ hbits w) ≡ true → Computes t y n
+    → ltb n (2 ^ hbits w) ≡ true → IsTrue (nat_eq (of_z w s) (of_z w t)) ↔ (x ≡ y)
 same_test w {s} {t} {x} {y} d b e c = (forward, back)
   where
     forward : IsTrue (nat_eq (of_z w s) (of_z w t)) → x ≡ y

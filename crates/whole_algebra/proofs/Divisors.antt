@@ -1,8 +1,11 @@
--- Greatest common divisors over ℤ: each is a whole combination of its numbers (Bezout), and a reduced triple is the one triple of its proportion. So a point (x, y, w) that stands for (x/w, y/w) with w > 0 is one value per point once it is divided by its greatest common divisor:
+-- Greatest common divisors over ℤ: each is a whole combination of its numbers (Bezout), and a reduced triple is the one triple
+-- of its proportion. So a point (x, y, w) that stands for (x/w, y/w) with w > 0 is one value per point once it is divided by
+-- its greatest common divisor:
 --
 --     reduced_same x y w x' y' w' reduced reduced' positive positive' ex ey : (x ≡ x') × (y ≡ y') × (w ≡ w')
 --
--- where ex : x *ℤ w' ≡ x' *ℤ w, and ey likewise. `reduced_from_IsGcd` and `reduced_quotients` give what it asks for, from Euclid's algorithm by std's `IsGcd`.
+-- where ex : x *ℤ w' ≡ x' *ℤ w, and ey likewise. `reduced_from_IsGcd` and `reduced_quotients` give what it asks for, from
+-- Euclid's algorithm by std's `IsGcd`.
 use Rattle.std.proofs.Common.{ℕ, zero, suc, ◌≡◌, ◌+◌, ◌*◌, ◌<◌, ◌≤◌, ◌/◌, ◌%◌, [], ◌∷◌, ℤ, pos, negsuc, ◌+ℤ◌, ◌-ℤ◌, ◌*ℤ◌, nat_abs, ◌<ℤ◌, ◌≤ℤ◌, int_div, int_rem, ap, refl, sym, ◌∙◌, subst, div-add-mod', mod-lt, one-mul, arith}
 use Prim.Native.Nat.{◌∣◌}
 use Rattle.std.specs.Int.{IsGcd}
@@ -24,7 +27,14 @@ pub record Bezout (a b : ℕ) : Type 0 where
   pub is : s *ℤ pos a +ℤ t *ℤ pos b ≡ pos divisor
 
 bezout_zero : (a b : ℕ) → b ≡ 0 → Bezout a b
-bezout_zero a b e = record { divisor = a; is_gcd = IsGcd-from_zero a b e; s = pos 1; t = pos 0; is = identity (num (pos 1) ⊗ var 0 ⊕ num (pos 0) ⊗ var 1) (var 0) (pos a ∷ pos b ∷ []) refl }
+bezout_zero a b e = record {
+  divisor = a;
+  is_gcd = IsGcd-from_zero a b e;
+  s = pos 1;
+  t = pos 0;
+  is =
+      identity (num (pos 1) ⊗ var 0 ⊕ num (pos 0) ⊗ var 1) (var 0) (pos a ∷ pos b ∷ []) refl;
+}
 
 -- from a remainder r of a by b, with the quotient q
 bezout_up : (a b q r : ℕ) → q * b + r ≡ a → (d : Bezout b r) → IsGcd a b d.divisor → Bezout a b
@@ -58,19 +68,25 @@ reduced_from_IsGcd x y w g h k d p q r = k.2 d (h.2 d p q) r
 
 -- `/` is exact at a divisor
 pub exact_quotient : (z : ℤ) (g : ℕ) → g ∣ nat_abs z → int_div z (pos g) *ℤ pos g ≡ z
-exact_quotient z g h = sym (+ℤ_idr (int_div z (pos g) *ℤ pos g)) ∙ ap (λ r. int_div z (pos g) *ℤ pos g +ℤ r) (sym (no_rest z h)) ∙ quot-rem z (pos g)
+exact_quotient z g h = sym (+ℤ_idr (int_div z (pos g) *ℤ pos g)) ∙ ap (λ r. int_div z (pos g) *ℤ pos g +ℤ r) (sym (no_rest z h))
+    ∙ quot-rem z (pos g)
   where
     no_rest : (z : ℤ) → g ∣ nat_abs z → int_rem z (pos g) ≡ pos 0
     no_rest (pos n) k = ap pos (mod-eq-zero_of_dvd g k)
     no_rest (negsuc n) k = ap (λ m. neg_ℤ (pos m)) (mod-eq-zero_of_dvd g k)
 
 -- the quotients of three numbers by their greatest common divisor g, found from that of the first two
-pub reduced_quotients : (x y w : ℤ) (h g : ℕ) → 0 < g → IsGcd (nat_abs x) (nat_abs y) h → IsGcd h (nat_abs w) g → Reduced (int_div x (pos g)) (int_div y (pos g)) (int_div w (pos g))
+pub reduced_quotients : (x y w : ℤ) (h g : ℕ) → 0 < g → IsGcd (nat_abs x) (nat_abs y) h → IsGcd h (nat_abs w) g
+    → Reduced (int_div x (pos g)) (int_div y (pos g)) (int_div w (pos g))
 reduced_quotients x y w h g some first second d p q r =
-    dvd_of_mul-dvd-mul_right d some (subst (λ n. d * g ∣ n) (sym (one-mul g)) (second.2 (d * g) (first.2 (d * g) (multiple x (dvd_trans _ second.0 first.0) p) (multiple y (dvd_trans _ second.0 first.1) q)) (multiple w second.1 r)))
+    dvd_of_mul-dvd-mul_right d some
+    (subst (λ n. d * g ∣ n) (sym (one-mul g))
+    (second.2 (d * g) (first.2 (d * g) (multiple x (dvd_trans _ second.0 first.0) p) (multiple y (dvd_trans _ second.0 first.1) q))
+    (multiple w second.1 r)))
   where
     multiple : (z : ℤ) → g ∣ nat_abs z → d ∣ nat_abs (int_div z (pos g)) → d * g ∣ nat_abs z
-    multiple z k o = subst (λ n. d * g ∣ n) (sym (unsigned_abs-mul (int_div z (pos g)) (pos g)) ∙ ap nat_abs (exact_quotient z g k)) (mul-dvd-mul_right d o g)
+    multiple z k o = subst (λ n. d * g ∣ n) (sym (unsigned_abs-mul (int_div z (pos g)) (pos g)) ∙ ap nat_abs (exact_quotient z g k))
+        (mul-dvd-mul_right d o g)
 
 -- ---- a reduced triple has a combination of 1
 pub record Combination (x y w : ℤ) : Type 0 where
@@ -103,7 +119,8 @@ combination x y w reduced = record { a = e.s *ℤ d.s *ℤ unit x; b = e.s *ℤ 
 
     joined : e.s *ℤ d.s *ℤ unit x *ℤ x +ℤ e.s *ℤ d.t *ℤ unit y *ℤ y +ℤ e.t *ℤ unit w *ℤ w ≡ pos 1
     joined =
-        let vs = x ∷ y ∷ w ∷ unit x ∷ unit y ∷ unit w ∷ d.s ∷ d.t ∷ e.s ∷ e.t ∷ pos d.divisor ∷ pos e.divisor ∷ pos (nat_abs x) ∷ pos (nat_abs y) ∷ pos (nat_abs w) ∷ [] in
+        let vs = x ∷ y ∷ w ∷ unit x ∷ unit y ∷ unit w ∷ d.s ∷ d.t ∷ e.s ∷ e.t ∷ pos d.divisor ∷ pos e.divisor ∷ pos (nat_abs x) ∷ pos
+        (nat_abs y) ∷ pos (nat_abs w) ∷ [] in
         let last : pos e.divisor ≡ pos 1 = ap pos one in
         same_from (var 8 ⊗ var 6 ⊗ var 3 ⊗ var 0 ⊕ var 8 ⊗ var 7 ⊗ var 4 ⊗ var 1 ⊕ var 9 ⊗ var 5 ⊗ var 2) (num (pos 1)) vs
         (scaled (var 8 ⊗ var 6) (same (var 3 ⊗ var 0) (var 12) (unit-* x))
@@ -116,7 +133,8 @@ combination x y w reduced = record { a = e.s *ℤ d.s *ℤ unit x; b = e.s *ℤ 
 -- ---- and is alone in its proportion
 -- w' is w times a whole number, so it is not less
 not_less : (x y w x' y' w' : ℤ) → Reduced x y w → pos 0 <ℤ w → pos 0 <ℤ w' → x *ℤ w' ≡ x' *ℤ w → y *ℤ w' ≡ y' *ℤ w → w ≤ℤ w'
-not_less x y w x' y' w' reduced positive positive' ex ey = subst (λ z. w ≤ℤ z) multiple (omega (arith, linear, scale_≤ℤ (<ℤ_weaken positive) one_or_more, *ℤ_one w))
+not_less x y w x' y' w' reduced positive positive' ex ey = subst (λ z. w ≤ℤ z) multiple
+    (omega (arith, linear, scale_≤ℤ (<ℤ_weaken positive) one_or_more, *ℤ_one w))
   where
     k : Combination x y w
     k = combination x y w reduced
@@ -130,13 +148,17 @@ not_less x y w x' y' w' reduced positive positive' ex ey = subst (λ z. w ≤ℤ
         ⊞ scaled (var 5) (same (var 6 ⊗ var 0 ⊕ var 7 ⊗ var 1 ⊕ var 8 ⊗ var 2) (num (pos 1)) k.is)) refl
 
     one_or_more : pos 1 ≤ℤ (k.a *ℤ x' +ℤ k.b *ℤ y' +ℤ k.c *ℤ w')
-    one_or_more = let h : pos 0 <ℤ (k.a *ℤ x' +ℤ k.b *ℤ y' +ℤ k.c *ℤ w') = pos_factor w (k.a *ℤ x' +ℤ k.b *ℤ y' +ℤ k.c *ℤ w') positive (subst (λ z. pos 0 <ℤ z) (sym multiple) positive') in omega (arith, linear, h)
+    one_or_more = let h : pos 0 <ℤ (k.a *ℤ x' +ℤ k.b *ℤ y' +ℤ k.c *ℤ w') =
+        pos_factor w (k.a *ℤ x' +ℤ k.b *ℤ y' +ℤ k.c *ℤ w') positive (subst (λ z. pos 0 <ℤ z) (sym multiple) positive') in
+        omega (arith, linear, h)
 
-pub reduced_same : (x y w x' y' w' : ℤ) → Reduced x y w → Reduced x' y' w' → pos 0 <ℤ w → pos 0 <ℤ w' → x *ℤ w' ≡ x' *ℤ w → y *ℤ w' ≡ y' *ℤ w → (x ≡ x') × (y ≡ y') × (w ≡ w')
+pub reduced_same : (x y w x' y' w' : ℤ) → Reduced x y w → Reduced x' y' w' → pos 0 <ℤ w → pos 0 <ℤ w' → x *ℤ w' ≡ x' *ℤ w
+    → y *ℤ w' ≡ y' *ℤ w → (x ≡ x') × (y ≡ y') × (w ≡ w')
 reduced_same x y w x' y' w' reduced reduced' positive positive' ex ey = (at_one_weight x x' ex, at_one_weight y y' ey, same_weight)
   where
     same_weight : w ≡ w'
-    same_weight = ≤ℤ_antisymm (not_less x y w x' y' w' reduced positive positive' ex ey) (not_less x' y' w' x y w reduced' positive' positive (sym ex) (sym ey))
+    same_weight = ≤ℤ_antisymm (not_less x y w x' y' w' reduced positive positive' ex ey)
+        (not_less x' y' w' x y w reduced' positive' positive (sym ex) (sym ey))
 
     at_one_weight : (u v : ℤ) → u *ℤ w' ≡ v *ℤ w → u ≡ v
     at_one_weight u v e = cancel_≡_right w u v (pos_nonzero positive) (ap (λ z. u *ℤ z) same_weight ∙ e)

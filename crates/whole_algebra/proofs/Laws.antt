@@ -1,11 +1,42 @@
--- The laws of ℤ that `lib.IntN` lacks: the product is associative, distributes over sums and differences, and passes negation on. (`+ℤ_assoc`, `+ℤ_comm`, `*ℤ_comm`, `zero-*ℤ`, `*ℤ-zero`, `neg_ℤ-+ℤ` stand there.)
+-- The laws of ℤ that `lib.IntN` lacks: the product is associative, distributes over sums and differences, and passes negation
+-- on. (`+ℤ_assoc`, `+ℤ_comm`, `*ℤ_comm`, `zero-*ℤ`, `*ℤ-zero`, `neg_ℤ-+ℤ` stand there.)
 -- `linear` is what `omega` needs for sums, negation and order alone: a product stays one unknown. Give it, as in
 --     omega (arith, linear, *ℤ-+ℤ a b c)
 use Rattle.std.proofs.Common.{ℕ, ◌≡◌, ◌+◌, ◌*◌, ℤ, pos, negsuc, ◌+ℤ◌, ◌-ℤ◌, ◌*ℤ◌, neg_ℤ, ap, sym, ◌∙◌, arith}
 use borrow.Author.Differences.{up, down, same_in, same_out, Apart-out, lt_T, le_T, lt_not, le_not, lt-true, lt-false, le-true, le-false, true-lt, false-lt, true-le, false-le, not_negative_out, lt_out, le_out, lt_in, le_in, below_in, at_most_in, not_negative_in, true_is_lt, false_is_lt, true_is_le, false_is_le, sum_is_lem, neg_is, product_is}
 use lib.IntN.{*ℤ_comm}
 
-pub ruleset linear = (same_out, Apart-out, lt_T, le_T, lt_not, le_not, lt-true, lt-false, le-true, le-false, true-lt, false-lt, true-le, false-le, not_negative_out, lt_out, le_out, same_in, lt_in, le_in, below_in, at_most_in, not_negative_in, true_is_lt, false_is_lt, true_is_le, false_is_le, sum_is_lem, neg_is)
+pub ruleset linear = (
+  same_out,
+  Apart-out,
+  lt_T,
+  le_T,
+  lt_not,
+  le_not,
+  lt-true,
+  lt-false,
+  le-true,
+  le-false,
+  true-lt,
+  false-lt,
+  true-le,
+  false-le,
+  not_negative_out,
+  lt_out,
+  le_out,
+  same_in,
+  lt_in,
+  le_in,
+  below_in,
+  at_most_in,
+  not_negative_in,
+  true_is_lt,
+  false_is_lt,
+  true_is_le,
+  false_is_le,
+  sum_is_lem,
+  neg_is,
+)
 
 up-* : (a b : ℤ) → up (a *ℤ b) ≡ up a * up b + down a * down b
 up-* a b = (product_is a b).0
@@ -21,7 +52,21 @@ spread : (a u d bu bd cu cd : ℕ) → u + bd + cd ≡ d + bu + cu → a * u + a
 spread a u d bu bd cu cd e = omega (arith, ap (λ (n : ℕ). a * n) e)
 
 pub *ℤ-+ℤ : (a b c : ℤ) → a *ℤ (b +ℤ c) ≡ a *ℤ b +ℤ a *ℤ c
-*ℤ-+ℤ a b c = same_in (a *ℤ (b +ℤ c)) (a *ℤ b +ℤ a *ℤ c) (omega (arith, up-* a (b +ℤ c), down-* a (b +ℤ c), up-* a b, down-* a b, up-* a c, down-* a c, sum_is_lem (a *ℤ b) (a *ℤ c), spread (up a) (up (b +ℤ c)) (down (b +ℤ c)) (up b) (down b) (up c) (down c) (sum_is_lem b c), spread (down a) (up (b +ℤ c)) (down (b +ℤ c)) (up b) (down b) (up c) (down c) (sum_is_lem b c)))
+*ℤ-+ℤ a b c = same_in (a *ℤ (b +ℤ c)) (a *ℤ b +ℤ a *ℤ c)
+    (omega (
+      arith,
+      up-* a (b +ℤ c),
+      down-* a (b +ℤ c),
+      up-* a b,
+      down-* a b,
+      up-* a c,
+      down-* a c,
+      sum_is_lem (a *ℤ b) (a *ℤ c),
+      spread
+          (up a) (up (b +ℤ c)) (down (b +ℤ c)) (up b) (down b) (up c) (down c) (sum_is_lem b c),
+      spread (down a) (up (b +ℤ c)) (down (b +ℤ c))
+          (up b) (down b) (up c) (down c) (sum_is_lem b c),
+    ))
 
 pub +ℤ-*ℤ : (a b c : ℤ) → (a +ℤ b) *ℤ c ≡ a *ℤ c +ℤ b *ℤ c
 +ℤ-*ℤ a b c = *ℤ_comm (a +ℤ b) c ∙ *ℤ-+ℤ c a b ∙ (λ i. *ℤ_comm c a i +ℤ *ℤ_comm c b i)

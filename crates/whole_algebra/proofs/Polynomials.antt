@@ -1,4 +1,5 @@
--- Identities of polynomials over ℤ, by computation: write both sides as polynomials in `var 0`, `var 1`, .., give the list of their values, and `refl`.
+-- Identities of polynomials over ℤ, by computation: write both sides as polynomials in `var 0`, `var 1`, .., give the list of
+-- their values, and `refl`.
 --
 --     square : (a b : ℤ) → (a +ℤ b) *ℤ (a +ℤ b) ≡ a *ℤ a +ℤ pos 2 *ℤ a *ℤ b +ℤ b *ℤ b
 --     square a b =
@@ -6,7 +7,8 @@
 --         let y = var 1 in
 --         identity ((x ⊕ y) ⊗ (x ⊕ y)) (x ⊗ x ⊕ num (pos 2) ⊗ x ⊗ y ⊕ y ⊗ y) (a ∷ b ∷ []) refl
 --
--- A definition such as a determinant gets a twin over `Poly` with the same text, and conversion sees that the two agree where the definition unfolds:
+-- A definition such as a determinant gets a twin over `Poly` with the same text, and conversion sees that the two agree where
+-- the definition unfolds:
 --
 --     cross : ℤ → ℤ → ℤ → ℤ → ℤ
 --     cross a b c d = a *ℤ d -ℤ b *ℤ c
@@ -55,7 +57,8 @@ value (p ⊖ q) vs = value p vs -ℤ value q vs
 value (p ⊗ q) vs = value p vs *ℤ value q vs
 value (minus p) vs = neg_ℤ (value p vs)
 
--- ---- the normal form: 0, a number other than 0, or low + x·high, where x is the first value, low speaks of the values behind it and high of all
+-- ---- the normal form: 0, a number other than 0, or low + x·high, where x is the first value, low speaks of the values behind
+-- it and high of all
 pub data Normal : Type 0 where
   none : Normal
   leaf : ℤ → Normal
@@ -155,30 +158,62 @@ worth-sum (leaf a) q vs = worth-plus_number a q vs
 worth-sum (node low high) none vs = sym (+ℤ_idr (worth (node low high) vs))
 worth-sum (node low high) (leaf b) vs = omega (arith, linear, worth-branch (plus_number b low) high vs, worth-plus_number b low (tail vs))
 worth-sum (node low high) (node low' high') vs =
-    let e : head vs *ℤ worth (sum high high') vs ≡ head vs *ℤ worth high vs +ℤ head vs *ℤ worth high' vs = ap (λ z. head vs *ℤ z) (worth-sum high high' vs) ∙ *ℤ-+ℤ (head vs) (worth high vs) (worth high' vs) in
+    let e : head vs *ℤ worth (sum high high') vs ≡ head vs *ℤ worth high vs +ℤ head vs *ℤ worth high' vs =
+    ap (λ z. head vs *ℤ z) (worth-sum high high' vs) ∙ *ℤ-+ℤ (head vs) (worth high vs) (worth high' vs) in
     omega (arith, linear, worth-branch (sum low low') (sum high high') vs, worth-sum low low' (tail vs), e)
 
 worth-times_number : (a : ℤ) (q : Normal) (vs : List ℤ) → worth (times_number a q) vs ≡ a *ℤ worth q vs
 worth-times_number a none vs = sym (*ℤ-zero a)
 worth-times_number a (leaf b) vs = worth-number (a *ℤ b) vs
 worth-times_number a (node low high) vs =
-    let e : head vs *ℤ worth (times_number a high) vs ≡ a *ℤ (head vs *ℤ worth high vs) = ap (λ z. head vs *ℤ z) (worth-times_number a high vs) ∙ *ℤ_left_comm (head vs) a (worth high vs) in
-    omega (arith, linear, worth-branch (times_number a low) (times_number a high) vs, worth-times_number a low (tail vs), e, *ℤ-+ℤ a (worth low (tail vs)) (head vs *ℤ worth high vs))
+    let e : head vs *ℤ worth (times_number a high) vs ≡ a *ℤ (head vs *ℤ worth high vs) =
+    ap (λ z. head vs *ℤ z) (worth-times_number a high vs) ∙ *ℤ_left_comm (head vs) a (worth high vs) in
+    omega (
+      arith,
+      linear,
+      worth-branch (times_number a low) (times_number a high) vs,
+      worth-times_number a low (tail vs),
+      e,
+      *ℤ-+ℤ a
+          (worth low (tail vs)) (head vs *ℤ worth high vs),
+    )
 
-worth-times_low : (times : Normal → Normal) (p : Normal) → ((q : Normal) (vs : List ℤ) → worth (times q) vs ≡ worth p vs *ℤ worth q vs) → (q : Normal) (vs : List ℤ) → worth (times_low times q) vs ≡ worth p (tail vs) *ℤ worth q vs
+worth-times_low : (times : Normal → Normal) (p : Normal) → ((q : Normal) (vs : List ℤ) → worth (times q) vs ≡ worth p vs *ℤ worth q vs)
+    → (q : Normal) (vs : List ℤ) → worth (times_low times q) vs ≡ worth p (tail vs) *ℤ worth q vs
 worth-times_low times p h none vs = sym (*ℤ-zero (worth p (tail vs)))
-worth-times_low times p h (leaf b) vs = omega (arith, linear, worth-branch (times (leaf b)) none vs, h (leaf b) (tail vs), *ℤ-zero (head vs))
+worth-times_low times p h (leaf b) vs = omega
+    (arith, linear, worth-branch (times (leaf b)) none vs, h (leaf b) (tail vs), *ℤ-zero (head vs))
 worth-times_low times p h (node low high) vs =
     let w = worth p (tail vs) in
-    let e : head vs *ℤ worth (times_low times high) vs ≡ w *ℤ (head vs *ℤ worth high vs) = ap (λ z. head vs *ℤ z) (worth-times_low times p h high vs) ∙ *ℤ_left_comm (head vs) w (worth high vs) in
-    omega (arith, linear, worth-branch (times low) (times_low times high) vs, h low (tail vs), e, *ℤ-+ℤ w (worth low (tail vs)) (head vs *ℤ worth high vs))
+    let e : head vs *ℤ worth (times_low times high) vs ≡ w *ℤ (head vs *ℤ worth high vs) =
+    ap (λ z. head vs *ℤ z) (worth-times_low times p h high vs) ∙ *ℤ_left_comm (head vs) w (worth high vs) in
+    omega (
+      arith,
+      linear,
+      worth-branch (times low) (times_low times high) vs,
+      h low (tail vs),
+      e,
+      *ℤ-+ℤ w (worth low (tail vs))
+          (head vs *ℤ worth high vs),
+    )
 
 worth-product : (p q : Normal) (vs : List ℤ) → worth (product p q) vs ≡ worth p vs *ℤ worth q vs
 worth-product none q vs = sym (zero-*ℤ (worth q vs))
 worth-product (leaf a) q vs = worth-times_number a q vs
 worth-product (node low high) q vs =
-    let e : head vs *ℤ worth (product high q) vs ≡ (head vs *ℤ worth high vs) *ℤ worth q vs = ap (λ z. head vs *ℤ z) (worth-product high q vs) ∙ sym (*ℤ_assoc (head vs) (worth high vs) (worth q vs)) in
-    omega (arith, linear, worth-sum (times_low (product low) q) (branch none (product high q)) vs, worth-branch none (product high q) vs, worth-times_low (product low) low (worth-product low) q vs, e, +ℤ-*ℤ (worth low (tail vs)) (head vs *ℤ worth high vs) (worth q vs))
+    let e : head vs *ℤ worth (product high q) vs ≡ (head vs *ℤ worth high vs) *ℤ worth q vs =
+    ap (λ z. head vs *ℤ z) (worth-product high q vs) ∙ sym (*ℤ_assoc (head vs) (worth high vs) (worth q vs)) in
+    omega (
+      arith,
+      linear,
+      worth-sum (times_low (product low) q) (branch none (product high q)) vs,
+      worth-branch none
+          (product high q) vs,
+      worth-times_low (product low) low (worth-product low) q vs,
+      e,
+      +ℤ-*ℤ (worth low (tail vs))
+          (head vs *ℤ worth high vs) (worth q vs),
+    )
 
 worth-variable : (n : ℕ) (vs : List ℤ) → worth (variable n) vs ≡ at n vs
 worth-variable zero vs = +ℤ_idl (head vs *ℤ pos 1) ∙ one (head vs)
@@ -194,7 +229,8 @@ pub worth-normal : (p : Poly) (vs : List ℤ) → worth (normal p) vs ≡ value 
 worth-normal (var n) vs = worth-variable n vs
 worth-normal (num c) vs = worth-number c vs
 worth-normal (p ⊕ q) vs = worth-sum (normal p) (normal q) vs ∙ (λ i. worth-normal p vs i +ℤ worth-normal q vs i)
-worth-normal (p ⊖ q) vs = worth-sum (normal p) (times_number (negsuc 0) (normal q)) vs ∙ (λ i. worth-normal p vs i +ℤ worth-minus (normal q) vs i) ∙ ap (λ z. value p vs +ℤ neg_ℤ z) (worth-normal q vs)
+worth-normal (p ⊖ q) vs = worth-sum (normal p) (times_number (negsuc 0) (normal q)) vs
+    ∙ (λ i. worth-normal p vs i +ℤ worth-minus (normal q) vs i) ∙ ap (λ z. value p vs +ℤ neg_ℤ z) (worth-normal q vs)
 worth-normal (p ⊗ q) vs = worth-product (normal p) (normal q) vs ∙ (λ i. worth-normal p vs i *ℤ worth-normal q vs i)
 worth-normal (minus p) vs = worth-minus (normal p) vs ∙ ap neg_ℤ (worth-normal p vs)
 

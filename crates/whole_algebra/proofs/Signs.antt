@@ -1,4 +1,5 @@
--- Signs of sums and products over ℤ, products along an order, and cases by sign or by order. The names say what they are given: `pos-*-neg` is a positive number times a negative one.
+-- Signs of sums and products over ℤ, products along an order, and cases by sign or by order. The names say what they are given:
+-- `pos-*-neg` is a positive number times a negative one.
 --
 --     apart : (a b : ℤ) → ¬ (a ≡ b) → pos 0 <ℤ ((a -ℤ b) *ℤ (a -ℤ b))
 --     apart a b n = square_pos (a -ℤ b) (λ e. n (omega (arith, linear, e)))
@@ -121,7 +122,8 @@ pub product_zero : (a b : ℤ) → a *ℤ b ≡ pos 0 → (a ≡ pos 0) ⊎ (b �
 product_zero a b e = by_sign a (λ h. inr (other (λ z. <ℤ_apart h z))) inl (λ h. inr (other (λ z. <ℤ_apart h (sym z))))
   where
     other : ¬ (a ≡ pos 0) → b ≡ pos 0
-    other m = by_sign b (λ k. absurd (product_nonzero a b m (<ℤ_apart k) e)) (λ z. z) (λ k. absurd (product_nonzero a b m (λ z. <ℤ_apart k (sym z)) e))
+    other m = by_sign b (λ k. absurd (product_nonzero a b m (<ℤ_apart k) e)) (λ z. z)
+        (λ k. absurd (product_nonzero a b m (λ z. <ℤ_apart k (sym z)) e))
 
 pub square_zero : (a : ℤ) → a *ℤ a ≡ pos 0 → a ≡ pos 0
 square_zero a e = by_sign a (λ h. absurd (<ℤ_apart (neg-*-neg h h) (sym e))) (λ z. z) (λ h. absurd (<ℤ_apart (pos-*-pos h h) (sym e)))
@@ -165,7 +167,8 @@ pub nonpos_factor : (a b : ℤ) → pos 0 <ℤ a → (a *ℤ b) ≤ℤ pos 0 →
 nonpos_factor a b h p = by_lt_z (pos 0) b (λ k. absurd (<ℤ_irrefl (<ℤ-≤ℤ_trans (pos-*-pos h k) p))) (λ k. k)
 
 pub zero_factor : (a b : ℤ) → ¬ (a ≡ pos 0) → a *ℤ b ≡ pos 0 → b ≡ pos 0
-zero_factor a b n e = by_sign b (λ k. absurd (product_nonzero a b n (<ℤ_apart k) e)) (λ z. z) (λ k. absurd (product_nonzero a b n (λ z. <ℤ_apart k (sym z)) e))
+zero_factor a b n e = by_sign b (λ k. absurd (product_nonzero a b n (<ℤ_apart k) e)) (λ z. z)
+    (λ k. absurd (product_nonzero a b n (λ z. <ℤ_apart k (sym z)) e))
 
 -- ---- a factor on both sides of an order
 pub scale_<ℤ : {a b c : ℤ} → pos 0 <ℤ c → a <ℤ b → (c *ℤ a) <ℤ (c *ℤ b)

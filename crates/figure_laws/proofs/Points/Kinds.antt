@@ -26,13 +26,15 @@ uncovered_kind f rule p = kind_by (is_on_line f p) (is_line_boundary f rule p) (
 pub kind_of_uncovered : (f : Figure) (rule : Rule) (p : Point) → is_covered f p ≡ false → IsKind f rule p (uncovered_kind f rule p)
 kind_of_uncovered f rule p off = by_tests (is_on_line f p) (is_line_boundary f rule p) (is_at_point f p) refl refl refl
   where
-    by_tests : (on boundary at : Bool) → is_on_line f p ≡ on → is_line_boundary f rule p ≡ boundary → is_at_point f p ≡ at → IsKind f rule p (kind_by on boundary at)
+    by_tests : (on boundary at : Bool) → is_on_line f p ≡ on → is_line_boundary f rule p ≡ boundary → is_at_point f p ≡ at
+        → IsKind f rule p (kind_by on boundary at)
     by_tests true true at g h i = (off, g, h)
     by_tests true false at g h i = (off, g, h)
     by_tests false boundary true g h i = (off, g, i)
     by_tests false boundary false g h i = (off, g, i)
 
-uncovered_only : (f : Figure) (rule : Rule) (p : Point) (k : DimLoc) → is_covered f p ≡ false → IsKind f rule p k → k ≡ uncovered_kind f rule p
+uncovered_only : (f : Figure) (rule : Rule) (p : Point) (k : DimLoc) → is_covered f p ≡ false → IsKind f rule p k
+    → k ≡ uncovered_kind f rule p
 uncovered_only f rule p kind.AreaInterior off h = absurd (true≢false (sym (interior_is_covered h) ∙ off))
 uncovered_only f rule p kind.AreaBoundary off h = absurd (true≢false (sym h.0 ∙ off))
 uncovered_only f rule p kind.LineBoundary off h = λ i. kind_by (sym h.1 i) (sym h.2 i) (is_at_point f p)
@@ -41,7 +43,8 @@ uncovered_only f rule p kind.PointInterior off h = λ i. kind_by (sym h.1 i) (is
 uncovered_only f rule p kind.Exterior off h = λ i. kind_by (sym h.1 i) (is_line_boundary f rule p) (sym h.2 i)
 
 -- ---- in the areas
-covered_only : (f : Figure) (rule : Rule) (p : Point) (k : DimLoc) → is_covered f p ≡ true → IsKind f rule p k → ((k ≡ kind.AreaInterior) × IsAreaInterior f p) ⊎ ((k ≡ kind.AreaBoundary) × (¬ IsAreaInterior f p))
+covered_only : (f : Figure) (rule : Rule) (p : Point) (k : DimLoc) → is_covered f p ≡ true → IsKind f rule p k
+    → ((k ≡ kind.AreaInterior) × IsAreaInterior f p) ⊎ ((k ≡ kind.AreaBoundary) × (¬ IsAreaInterior f p))
 covered_only f rule p kind.AreaInterior on h = inl (refl, h)
 covered_only f rule p kind.AreaBoundary on h = inr (refl, h.1)
 covered_only f rule p kind.LineBoundary on h = absurd (true≢false (sym on ∙ h.0))
@@ -53,7 +56,8 @@ covered_only f rule p kind.Exterior on h = absurd (true≢false (sym on ∙ h.0)
 pub one_kind : (f : Figure) (rule : Rule) (p : Point) (k l : DimLoc) → IsKind f rule p k → IsKind f rule p l → k ≡ l
 one_kind f rule p k l hk hl = by_cover (cases_Bool (is_covered f p))
   where
-    both : ((k ≡ kind.AreaInterior) × IsAreaInterior f p) ⊎ ((k ≡ kind.AreaBoundary) × (¬ IsAreaInterior f p)) → ((l ≡ kind.AreaInterior) × IsAreaInterior f p) ⊎ ((l ≡ kind.AreaBoundary) × (¬ IsAreaInterior f p)) → k ≡ l
+    both : ((k ≡ kind.AreaInterior) × IsAreaInterior f p) ⊎ ((k ≡ kind.AreaBoundary) × (¬ IsAreaInterior f p))
+        → ((l ≡ kind.AreaInterior) × IsAreaInterior f p) ⊎ ((l ≡ kind.AreaBoundary) × (¬ IsAreaInterior f p)) → k ≡ l
     both (inl g) (inl h) = g.0 ∙ sym h.0
     both (inl g) (inr h) = absurd (h.1 g.1)
     both (inr g) (inl h) = absurd (g.1 h.1)
@@ -71,10 +75,12 @@ one_part {f} {rule} {p} g h =
 pub uncovered_without_areas : (f : Figure) (p : Point) → f.areas ≡ [] → is_covered f p ≡ false
 uncovered_without_areas f p e = ap (is_covered_by p) e
 
-pub one_of_four : (f : Figure) (rule : Rule) (p : Point) → is_covered f p ≡ false → IsKind f rule p kind.LineInterior ⊎ (IsKind f rule p kind.LineBoundary ⊎ (IsKind f rule p kind.PointInterior ⊎ IsKind f rule p kind.Exterior))
+pub one_of_four : (f : Figure) (rule : Rule) (p : Point) → is_covered f p ≡ false → IsKind f rule p kind.LineInterior
+    ⊎ (IsKind f rule p kind.LineBoundary ⊎ (IsKind f rule p kind.PointInterior ⊎ IsKind f rule p kind.Exterior))
 one_of_four f rule p off = by_tests (is_on_line f p) (is_line_boundary f rule p) (is_at_point f p) (kind_of_uncovered f rule p off)
   where
-    by_tests : (on boundary at : Bool) → IsKind f rule p (kind_by on boundary at) → IsKind f rule p kind.LineInterior ⊎ (IsKind f rule p kind.LineBoundary ⊎ (IsKind f rule p kind.PointInterior ⊎ IsKind f rule p kind.Exterior))
+    by_tests : (on boundary at : Bool) → IsKind f rule p (kind_by on boundary at) → IsKind f rule p kind.LineInterior
+        ⊎ (IsKind f rule p kind.LineBoundary ⊎ (IsKind f rule p kind.PointInterior ⊎ IsKind f rule p kind.Exterior))
     by_tests true true at h = inr (inl h)
     by_tests true false at h = inl h
     by_tests false boundary true h = inr (inr (inl h))

@@ -1,4 +1,5 @@
--- Where a point lies is said of the point and not of its triple: every test and relation of the definitions answers alike for the same point.
+-- Where a point lies is said of the point and not of its triple: every test and relation of the definitions answers alike for
+-- the same point.
 use Rattle.std.proofs.Common.{◌≡◌, ◌+◌, ℤ, pos, ◌*ℤ◌, ◌≤ℤ◌, Bool, true, false, not, ◌&&◌, ◌||◌, List, [], ◌∷◌, if◌then◌else◌, ap, refl, sym, ◌∙◌, arith}
 use Rattle.std.specs.List.{list_any}
 use Rattle.std.specs.Prelude.{int_lt}
@@ -23,7 +24,8 @@ use Rattle.point_set.specs.Lines.{is_at, is_at_some, count_at, ends_of_lines, is
 use Rattle.point_set.specs.Location.{location, location_by, rings_of, edges_of_rings, is_not_exterior, is_covered, IsAreaInterior, is_on_line, is_line_boundary, is_at_point, IsKind, IsLocation}
 
 -- two tests that agree on each item agree on a list
-pub list_any_alike : {X : Type 0} (test test' : X → Bool) → ((x : X) → test x ≡ test' x) → (xs : List X) → list_any test xs ≡ list_any test' xs
+pub list_any_alike : {X : Type 0} (test test' : X → Bool) → ((x : X) → test x ≡ test' x) → (xs : List X)
+    → list_any test xs ≡ list_any test' xs
 list_any_alike test test' h [] = refl
 list_any_alike test test' h (x ∷ xs) = λ i. h x i || list_any_alike test test' h xs i
 
@@ -74,7 +76,8 @@ crosses_from-same false false h = refl
 pub crosses-same : {p p' : Point} → IsSamePoint p p' → (e : Seg) → crosses p e ≡ crosses p' e
 crosses-same {p} {p'} h e =
     (λ i. crosses_from (is_low-same h (point_of e.a) i) (is_low-same h (point_of e.b) i) (turn (point_of e.a) (point_of e.b) p))
-    ∙ crosses_from-same (is_low p' (point_of e.a)) (is_low p' (point_of e.b)) (turn_same (same_refl (point_of e.a)) (same_refl (point_of e.b)) h)
+    ∙ crosses_from-same (is_low p' (point_of e.a)) (is_low p' (point_of e.b))
+    (turn_same (same_refl (point_of e.a)) (same_refl (point_of e.b)) h)
 
 pub is_odd-same : {p p' : Point} → IsSamePoint p p' → (edges : List Seg) → is_odd p edges ≡ is_odd p' edges
 is_odd-same h [] = refl
@@ -109,7 +112,8 @@ is_on_line-same {p} {p'} h f =
     list_any_alike (λ line. is_on_edges p (edges_of line)) (λ line. is_on_edges p' (edges_of line))
     (λ line. is_on_edges-same h (edges_of line)) f.lines
 
-pub is_line_boundary-same : {p p' : Point} → IsSamePoint p p' → (f : Figure) (rule : Rule) → is_line_boundary f rule p ≡ is_line_boundary f rule p'
+pub is_line_boundary-same : {p p' : Point} → IsSamePoint p p' → (f : Figure) (rule : Rule)
+    → is_line_boundary f rule p ≡ is_line_boundary f rule p'
 is_line_boundary-same h f rule = ap (is_boundary_count rule) (count_at-same h (ends_of_lines f.lines))
 
 pub is_at_point-same : {p p' : Point} → IsSamePoint p p' → (f : Figure) → is_at_point f p ≡ is_at_point f p'
@@ -131,5 +135,6 @@ IsKind-same h f rule kind.PointInterior k =
 IsKind-same h f rule kind.Exterior k =
     (sym (is_covered-same h f) ∙ k.0, sym (is_on_line-same h f) ∙ k.1, sym (is_at_point-same h f) ∙ k.2)
 
-pub IsLocation-same : {p p' : Point} → IsSamePoint p p' → (f : Figure) (rule : Rule) {part : Loc} → IsLocation f rule p part → IsLocation f rule p' part
+pub IsLocation-same : {p p' : Point} → IsSamePoint p p' → (f : Figure) (rule : Rule) {part : Loc} → IsLocation f rule p part
+    → IsLocation f rule p' part
 IsLocation-same h f rule l = record { decided_by = l.decided_by; decides = IsKind-same h f rule l.decided_by l.decides; gives = l.gives }

@@ -35,7 +35,8 @@ later_differ : (n : ℕ) {f : ℕ → Point} → AreDifferent f → AreDifferent
 unfolding later
 later_differ n d = record { apart = λ i j h. d.apart ((n + 1) + i) ((n + 1) + j) (omega arith) }
 
-misses_more : (q : Pt) (others : List Pt) → ((f : ℕ → Point) → AreDifferent f → Misses f others) → (f : ℕ → Point) → AreDifferent f → Misses f (q ∷ others)
+misses_more : (q : Pt) (others : List Pt) → ((f : ℕ → Point) → AreDifferent f → Misses f others) → (f : ℕ → Point) → AreDifferent f
+    → Misses f (q ∷ others)
 unfolding later
 misses_more q others missed f d = go (missed f d)
   where
@@ -138,7 +139,8 @@ farther x w u m heavy h k e =
     let below : ((u +ℤ pos 1) *ℤ w) ≤ℤ x = ≤ℤ_trans (scale_≤ℤ_right (<ℤ_weaken heavy) k) h in
     omega (arith, linear, below, +ℤ-*ℤ u (pos 1) w, one-*ℤ w, *ℤ_one x, e, heavy)
 
-off_more : (q : Pt) (others : List Pt) (m : ℤ) → (q.x +ℤ pos 1) ≤ℤ m → ((p : Point) → (m *ℤ p.w) ≤ℤ p.x → is_at_some p others ≡ false) → (p : Point) → (m *ℤ p.w) ≤ℤ p.x → is_at_some p (q ∷ others) ≡ false
+off_more : (q : Pt) (others : List Pt) (m : ℤ) → (q.x +ℤ pos 1) ≤ℤ m → ((p : Point) → (m *ℤ p.w) ≤ℤ p.x → is_at_some p others ≡ false)
+    → (p : Point) → (m *ℤ p.w) ≤ℤ p.x → is_at_some p (q ∷ others) ≡ false
 off_more q others m k off p h =
     or_from (is_at p q) (is_at_some p others)
     (false_from_ne_true (is_at p q) (λ e. farther p.x p.w q.x m p.heavy h k ((Decides-is_same_point p (point_of q)).0 e).across))
@@ -161,7 +163,8 @@ pub beyond_all : (positions : List Pt) → Beyond positions
 beyond_all [] = record { m = pos 0; off = λ p h. refl }
 beyond_all (q ∷ others) = beyond_more q others (beyond_all others)
 
-right_of_corner : (m s t u k x w : ℤ) → pos 0 ≤ℤ t → pos 0 <ℤ k → k *ℤ x ≡ (s *ℤ m +ℤ t *ℤ (m +ℤ pos 1)) +ℤ u *ℤ m → k *ℤ w ≡ (s *ℤ pos 1 +ℤ t *ℤ pos 1) +ℤ u *ℤ pos 1 → (m *ℤ w) ≤ℤ x
+right_of_corner : (m s t u k x w : ℤ) → pos 0 ≤ℤ t → pos 0 <ℤ k → k *ℤ x ≡ (s *ℤ m +ℤ t *ℤ (m +ℤ pos 1)) +ℤ u *ℤ m
+    → k *ℤ w ≡ (s *ℤ pos 1 +ℤ t *ℤ pos 1) +ℤ u *ℤ pos 1 → (m *ℤ w) ≤ℤ x
 right_of_corner m s t u k x w h some e f =
     let vs = m ∷ s ∷ t ∷ u ∷ k ∷ x ∷ w ∷ [] in
     let one = num (pos 1) in

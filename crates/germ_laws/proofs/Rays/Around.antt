@@ -39,10 +39,12 @@ down_from (negsuc k) (pos zero) e = inr (refl, omega (arith, linear))
 down_from x (negsuc n) e = inl (omega (arith, linear))
 
 -- a and b point up, b is to the left of a, and c points down and isn't to the left of b: then a is to the left of c
-up_up_down : (ax ay bx by cx cy : ℤ) → IsUp ax ay → IsUp bx by → IsUp (neg_ℤ cx) (neg_ℤ cy) → pos 0 <ℤ ((ax *ℤ by) -ℤ (ay *ℤ bx)) → ((bx *ℤ cy) -ℤ (by *ℤ cx)) ≤ℤ pos 0 → pos 0 <ℤ ((cx *ℤ ay) -ℤ (cy *ℤ ax))
+up_up_down : (ax ay bx by cx cy : ℤ) → IsUp ax ay → IsUp bx by → IsUp (neg_ℤ cx) (neg_ℤ cy) → pos 0 <ℤ ((ax *ℤ by) -ℤ (ay *ℤ bx))
+    → ((bx *ℤ cy) -ℤ (by *ℤ cx)) ≤ℤ pos 0 → pos 0 <ℤ ((cx *ℤ ay) -ℤ (cy *ℤ ax))
 up_up_down ax ay bx by cx cy a (inl b) (inr c) h k =
     impossible_by (ax ∷ ay ∷ bx ∷ by ∷ cx ∷ cy ∷ [])
-    (at_most (var 2 ⊗ var 5 ⊖ var 3 ⊗ var 4) (num (pos 0)) k ⊞ positive (var 3) b ⊠ positive (minus (var 4)) c.1 ⊞ scaled (minus (var 2)) (vanishing (minus (var 5)) c.0)) refl
+    (at_most (var 2 ⊗ var 5 ⊖ var 3 ⊗ var 4) (num (pos 0)) k ⊞ positive (var 3) b ⊠ positive (minus (var 4)) c.1
+    ⊞ scaled (minus (var 2)) (vanishing (minus (var 5)) c.0)) refl
 up_up_down ax ay bx by cx cy (inl a) (inl b) (inl c) h k =
     less_by (num (pos 0)) (var 4 ⊗ var 1 ⊖ var 5 ⊗ var 0) (ax ∷ ay ∷ bx ∷ by ∷ cx ∷ cy ∷ [])
     (λ denied. denied ⊠ positive (var 3) b ⊞ positive (minus (var 5)) c ⊠ positive (var 0 ⊗ var 3 ⊖ var 1 ⊗ var 2) h
@@ -52,13 +54,16 @@ up_up_down ax ay bx by cx cy (inr a) (inl b) (inl c) h k =
     (λ denied. denied ⊞ positive (var 0) a.1 ⊠ positive (minus (var 5)) c ⊞ scaled (var 4) (vanishing (var 1) a.0)) refl
 up_up_down ax ay bx by cx cy (inl a) (inr b) c h k =
     impossible_by (ax ∷ ay ∷ bx ∷ by ∷ cx ∷ cy ∷ [])
-    (positive (var 0 ⊗ var 3 ⊖ var 1 ⊗ var 2) h ⊞ positive (var 1) a ⊠ positive (var 2) b.1 ⊞ scaled (minus (var 0)) (vanishing (var 3) b.0)) refl
+    (positive (var 0 ⊗ var 3 ⊖ var 1 ⊗ var 2) h ⊞ positive (var 1) a ⊠ positive (var 2) b.1
+    ⊞ scaled (minus (var 0)) (vanishing (var 3) b.0)) refl
 up_up_down ax ay bx by cx cy (inr a) (inr b) c h k =
     impossible_by (ax ∷ ay ∷ bx ∷ by ∷ cx ∷ cy ∷ [])
-    (positive (var 0 ⊗ var 3 ⊖ var 1 ⊗ var 2) h ⊞ scaled (minus (var 0)) (vanishing (var 3) b.0) ⊞ scaled (var 2) (vanishing (var 1) a.0)) refl
+    (positive (var 0 ⊗ var 3 ⊖ var 1 ⊗ var 2) h ⊞ scaled (minus (var 0)) (vanishing (var 3) b.0) ⊞ scaled (var 2) (vanishing (var 1) a.0))
+    refl
 
 -- a points up, and b and c down, b isn't to the left of a, and c is to the left of b: then a is to the left of c
-up_down_down : (ax ay bx by cx cy : ℤ) → IsUp ax ay → IsUp (neg_ℤ bx) (neg_ℤ by) → IsUp (neg_ℤ cx) (neg_ℤ cy) → ((ax *ℤ by) -ℤ (ay *ℤ bx)) ≤ℤ pos 0 → pos 0 <ℤ ((bx *ℤ cy) -ℤ (by *ℤ cx)) → pos 0 <ℤ ((cx *ℤ ay) -ℤ (cy *ℤ ax))
+up_down_down : (ax ay bx by cx cy : ℤ) → IsUp ax ay → IsUp (neg_ℤ bx) (neg_ℤ by) → IsUp (neg_ℤ cx) (neg_ℤ cy)
+    → ((ax *ℤ by) -ℤ (ay *ℤ bx)) ≤ℤ pos 0 → pos 0 <ℤ ((bx *ℤ cy) -ℤ (by *ℤ cx)) → pos 0 <ℤ ((cx *ℤ ay) -ℤ (cy *ℤ ax))
 up_down_down ax ay bx by cx cy (inr a) b (inl c) h k =
     less_by (num (pos 0)) (var 4 ⊗ var 1 ⊖ var 5 ⊗ var 0) (ax ∷ ay ∷ bx ∷ by ∷ cx ∷ cy ∷ [])
     (λ denied. denied ⊞ positive (var 0) a.1 ⊠ positive (minus (var 5)) c ⊞ scaled (var 4) (vanishing (var 1) a.0)) refl
@@ -68,13 +73,16 @@ up_down_down ax ay bx by cx cy (inl a) (inl b) (inl c) h k =
     ⊞ positive (minus (var 5)) c ⊠ at_most (var 0 ⊗ var 3 ⊖ var 1 ⊗ var 2) (num (pos 0)) h) refl
 up_down_down ax ay bx by cx cy (inl a) (inr b) (inl c) h k =
     impossible_by (ax ∷ ay ∷ bx ∷ by ∷ cx ∷ cy ∷ [])
-    (at_most (var 0 ⊗ var 3 ⊖ var 1 ⊗ var 2) (num (pos 0)) h ⊞ positive (var 1) a ⊠ positive (minus (var 2)) b.1 ⊞ scaled (minus (var 0)) (vanishing (minus (var 3)) b.0)) refl
+    (at_most (var 0 ⊗ var 3 ⊖ var 1 ⊗ var 2) (num (pos 0)) h ⊞ positive (var 1) a ⊠ positive (minus (var 2)) b.1
+    ⊞ scaled (minus (var 0)) (vanishing (minus (var 3)) b.0)) refl
 up_down_down ax ay bx by cx cy a (inl b) (inr c) h k =
     impossible_by (ax ∷ ay ∷ bx ∷ by ∷ cx ∷ cy ∷ [])
-    (positive (var 2 ⊗ var 5 ⊖ var 3 ⊗ var 4) k ⊞ positive (minus (var 3)) b ⊠ positive (minus (var 4)) c.1 ⊞ scaled (var 2) (vanishing (minus (var 5)) c.0)) refl
+    (positive (var 2 ⊗ var 5 ⊖ var 3 ⊗ var 4) k ⊞ positive (minus (var 3)) b ⊠ positive (minus (var 4)) c.1
+    ⊞ scaled (var 2) (vanishing (minus (var 5)) c.0)) refl
 up_down_down ax ay bx by cx cy a (inr b) (inr c) h k =
     impossible_by (ax ∷ ay ∷ bx ∷ by ∷ cx ∷ cy ∷ [])
-    (positive (var 2 ⊗ var 5 ⊖ var 3 ⊗ var 4) k ⊞ scaled (var 2) (vanishing (minus (var 5)) c.0) ⊞ scaled (minus (var 4)) (vanishing (minus (var 3)) b.0)) refl
+    (positive (var 2 ⊗ var 5 ⊖ var 3 ⊗ var 4) k ⊞ scaled (var 2) (vanishing (minus (var 5)) c.0)
+    ⊞ scaled (minus (var 4)) (vanishing (minus (var 3)) b.0)) refl
 
 -- ---- three directions in their order around
 -- counter-clockwise b comes after a, c after b and a after c, in one turn: at least two of them are to the left of the one before
@@ -88,17 +96,23 @@ turn_on (around_a h k) = around_c h k
 turn_on (around_b h k) = around_a h k
 turn_on (around_c h k) = around_b h k
 
-aligned_up : (dx dy ex ey : ℤ) → (pos 0 <ℤ dy) ⊎ ((dy ≡ pos 0) × (pos 0 <ℤ dx)) → (pos 0 <ℤ ey) ⊎ ((ey ≡ pos 0) × (pos 0 <ℤ ex)) → dx *ℤ ey -ℤ dy *ℤ ex ≡ pos 0 → (m : ℤ) × (n : ℤ) × (pos 0 <ℤ m) × (pos 0 <ℤ n) × (m *ℤ dx ≡ n *ℤ ex) × (m *ℤ dy ≡ n *ℤ ey)
+aligned_up : (dx dy ex ey : ℤ) → (pos 0 <ℤ dy) ⊎ ((dy ≡ pos 0) × (pos 0 <ℤ dx)) → (pos 0 <ℤ ey) ⊎ ((ey ≡ pos 0) × (pos 0 <ℤ ex))
+    → dx *ℤ ey -ℤ dy *ℤ ex ≡ pos 0 → (m : ℤ) × (n : ℤ) × (pos 0 <ℤ m) × (pos 0 <ℤ n) × (m *ℤ dx ≡ n *ℤ ex) × (m *ℤ dy ≡ n *ℤ ey)
 aligned_up dx dy ex ey (inl h) (inl k) e = (ey, dy, k, h, omega (arith, linear, e, *ℤ_comm ey dx), *ℤ_comm ey dy)
 aligned_up dx dy ex ey (inl h) (inr k) e =
-    impossible_by (dx ∷ dy ∷ ex ∷ ey ∷ []) (positive (var 1) h ⊠ positive (var 2) k.1 ⊞ vanishing (var 0 ⊗ var 3 ⊖ var 1 ⊗ var 2) e ⊞ scaled (minus (var 0)) (vanishing (var 3) k.0)) refl
+    impossible_by (dx ∷ dy ∷ ex ∷ ey ∷ [])
+    (positive (var 1) h ⊠ positive (var 2) k.1 ⊞ vanishing (var 0 ⊗ var 3 ⊖ var 1 ⊗ var 2) e
+    ⊞ scaled (minus (var 0)) (vanishing (var 3) k.0)) refl
 aligned_up dx dy ex ey (inr h) (inl k) e =
-    impossible_by (dx ∷ dy ∷ ex ∷ ey ∷ []) (positive (var 3) k ⊠ positive (var 0) h.1 ⊞ scaled (num (negsuc 0)) (vanishing (var 0 ⊗ var 3 ⊖ var 1 ⊗ var 2) e) ⊞ scaled (minus (var 2)) (vanishing (var 1) h.0)) refl
-aligned_up dx dy ex ey (inr h) (inr k) e = (ex, dx, k.1, h.1, *ℤ_comm ex dx, (λ i. ex *ℤ h.0 i) ∙ *ℤ-zero ex ∙ sym (*ℤ-zero dx) ∙ (λ i. dx *ℤ sym k.0 i))
+    impossible_by (dx ∷ dy ∷ ex ∷ ey ∷ [])
+    (positive (var 3) k ⊠ positive (var 0) h.1 ⊞ scaled (num (negsuc 0)) (vanishing (var 0 ⊗ var 3 ⊖ var 1 ⊗ var 2) e)
+    ⊞ scaled (minus (var 2)) (vanishing (var 1) h.0)) refl
+aligned_up dx dy ex ey (inr h) (inr k) e =
+    (ex, dx, k.1, h.1, *ℤ_comm ex dx, (λ i. ex *ℤ h.0 i) ∙ *ℤ-zero ex ∙ sym (*ℤ-zero dx) ∙ (λ i. dx *ℤ sym k.0 i))
 
 opposite : (m n x y : ℤ) → m *ℤ neg_ℤ x ≡ n *ℤ neg_ℤ y → m *ℤ x ≡ n *ℤ y
-opposite m n x y e = same_from (var 0 ⊗ var 2) (var 1 ⊗ var 3) (m ∷ n ∷ x ∷ y ∷ []) (scaled (num (negsuc 0)) (same (var 0 ⊗ minus (var 2)) (var 1 ⊗ minus (var 3)) e)) refl
-
+opposite m n x y e = same_from (var 0 ⊗ var 2) (var 1 ⊗ var 3) (m ∷ n ∷ x ∷ y ∷ [])
+    (scaled (num (negsuc 0)) (same (var 0 ⊗ minus (var 2)) (var 1 ⊗ minus (var 3)) e)) refl
 
 -- ---- the order of directions
 abbrev pub IsAhead : Direction → Direction → Type 0
@@ -110,7 +124,8 @@ ahead_from : (d e : Dir) → compare_angles d e ≡ Less → IsAhead (direction_
 unfolding bend_of
 ahead_from d e h = go (past_half d.dx d.dy) (past_half e.dx e.dy) h
   where
-    go : (p q : Bool) → ordering_then (bool_cmp p q) (int_cmp (pos 0) (bend d e)) ≡ Less → ((p ≡ false) × (q ≡ true)) ⊎ ((p ≡ q) × (pos 0 <ℤ bend d e))
+    go : (p q : Bool) → ordering_then (bool_cmp p q) (int_cmp (pos 0) (bend d e)) ≡ Less → ((p ≡ false) × (q ≡ true))
+        ⊎ ((p ≡ q) × (pos 0 <ℤ bend d e))
     go false true k = inl (refl, refl)
     go false false k = inr (refl, less_int_cmp (pos 0) (bend d e) k)
     go true true k = inr (refl, less_int_cmp (pos 0) (bend d e) k)
@@ -127,7 +142,8 @@ in_turn a b c = go
     go (inl p) (inl q) = absurd (true≢false (sym p.1 ∙ q.0))
     go (inl p) (inr q) =
         by_lt_z (pos 0) (bend_of a b) (λ l. around_b l q.1)
-        (λ n. around_c q.1 (up_down_down a.x a.y b.x b.y c.x c.y (up_first a p.0) (down_from b.x b.y p.1) (down_from c.x c.y (sym q.0 ∙ p.1)) n q.1))
+        (λ n. around_c q.1 (up_down_down a.x a.y b.x b.y c.x c.y (up_first a p.0) (down_from b.x b.y p.1)
+        (down_from c.x c.y (sym q.0 ∙ p.1)) n q.1))
     go (inr p) (inl q) =
         by_lt_z (pos 0) (bend_of b c) (λ l. around_b p.1 l)
         (λ n. around_a (up_up_down a.x a.y b.x b.y c.x c.y (up_first a (p.0 ∙ q.0)) (up_first b q.0) (down_from c.x c.y q.1) p.1 n) p.1)
@@ -138,30 +154,43 @@ unfolding bend_of
 level_way d e h z = go (past_half d.x d.y) refl
   where
     go : (t : Bool) → past_half d.x d.y ≡ t → PointSameWay d e
-    go false p = let r = aligned_up d.x d.y e.x e.y (up_from d.x d.y d.moves p) (up_from e.x e.y e.moves (sym h ∙ p)) z in record { m = r.0; n = r.1; some = r.2; other = r.3; across = r.4; above = r.5 }
+    go false p = let r = aligned_up d.x d.y e.x e.y (up_from d.x d.y d.moves p) (up_from e.x e.y e.moves (sym h ∙ p)) z in
+        record { m = r.0; n = r.1; some = r.2; other = r.3; across = r.4; above = r.5 }
     go true p =
-        let back : (neg_ℤ d.x *ℤ neg_ℤ e.y) -ℤ (neg_ℤ d.y *ℤ neg_ℤ e.x) ≡ pos 0 = identity (minus (var 0) ⊗ minus (var 3) ⊖ minus (var 1) ⊗ minus (var 2)) (var 0 ⊗ var 3 ⊖ var 1 ⊗ var 2) (d.x ∷ d.y ∷ e.x ∷ e.y ∷ []) refl ∙ z in
+        let back : (neg_ℤ d.x *ℤ neg_ℤ e.y) -ℤ (neg_ℤ d.y *ℤ neg_ℤ e.x) ≡ pos 0 =
+        identity (minus (var 0) ⊗ minus (var 3) ⊖ minus (var 1) ⊗ minus (var 2)) (var 0 ⊗ var 3 ⊖ var 1 ⊗ var 2)
+        (d.x ∷ d.y ∷ e.x ∷ e.y ∷ []) refl ∙ z in
         let r = aligned_up (neg_ℤ d.x) (neg_ℤ d.y) (neg_ℤ e.x) (neg_ℤ e.y) (down_from d.x d.y p) (down_from e.x e.y (sym h ∙ p)) back in
         record { m = r.0; n = r.1; some = r.2; other = r.3; across = opposite r.0 r.1 d.x e.x r.4; above = opposite r.0 r.1 d.y e.y r.5 }
 
-
 less_bend : (d e : Direction) → bend_of d e <ℤ pos 0 → pos 0 <ℤ bend_of e d
 unfolding bend_of
-less_bend d e n = less_by (num (pos 0)) (var 2 ⊗ var 1 ⊖ var 3 ⊗ var 0) (d.x ∷ d.y ∷ e.x ∷ e.y ∷ []) (λ denied. denied ⊞ less (var 0 ⊗ var 3 ⊖ var 1 ⊗ var 2) (num (pos 0)) n) refl
+less_bend d e n = less_by (num (pos 0)) (var 2 ⊗ var 1 ⊖ var 3 ⊗ var 0) (d.x ∷ d.y ∷ e.x ∷ e.y ∷ [])
+    (λ denied. denied ⊞ less (var 0 ⊗ var 3 ⊖ var 1 ⊗ var 2) (num (pos 0)) n) refl
 
 bend_less : (d e : Direction) → pos 0 <ℤ bend_of e d → bend_of d e <ℤ pos 0
 unfolding bend_of
-bend_less d e n = less_by (var 0 ⊗ var 3 ⊖ var 1 ⊗ var 2) (num (pos 0)) (d.x ∷ d.y ∷ e.x ∷ e.y ∷ []) (λ denied. denied ⊞ positive (var 2 ⊗ var 1 ⊖ var 3 ⊗ var 0) n) refl
+bend_less d e n = less_by (var 0 ⊗ var 3 ⊖ var 1 ⊗ var 2) (num (pos 0)) (d.x ∷ d.y ∷ e.x ∷ e.y ∷ [])
+    (λ denied. denied ⊞ positive (var 2 ⊗ var 1 ⊖ var 3 ⊗ var 0) n) refl
 
-up_down : (rx ry dx dy m n : ℤ) → pos 0 <ℤ m → pos 0 <ℤ n → m *ℤ rx ≡ n *ℤ dx → m *ℤ ry ≡ n *ℤ dy → IsUp rx ry → IsUp (neg_ℤ dx) (neg_ℤ dy) → ⊥
+up_down : (rx ry dx dy m n : ℤ) → pos 0 <ℤ m → pos 0 <ℤ n → m *ℤ rx ≡ n *ℤ dx → m *ℤ ry ≡ n *ℤ dy → IsUp rx ry
+    → IsUp (neg_ℤ dx) (neg_ℤ dy) → ⊥
 up_down rx ry dx dy m n hm hn e f (inl h) (inl k) =
-    impossible_by (rx ∷ ry ∷ dx ∷ dy ∷ m ∷ n ∷ []) (positive (var 4) hm ⊠ positive (var 1) h ⊞ positive (var 5) hn ⊠ positive (minus (var 3)) k ⊞ scaled (num (negsuc 0)) (same (var 4 ⊗ var 1) (var 5 ⊗ var 3) f)) refl
+    impossible_by (rx ∷ ry ∷ dx ∷ dy ∷ m ∷ n ∷ [])
+    (positive (var 4) hm ⊠ positive (var 1) h ⊞ positive (var 5) hn ⊠ positive (minus (var 3)) k
+    ⊞ scaled (num (negsuc 0)) (same (var 4 ⊗ var 1) (var 5 ⊗ var 3) f)) refl
 up_down rx ry dx dy m n hm hn e f (inl h) (inr k) =
-    impossible_by (rx ∷ ry ∷ dx ∷ dy ∷ m ∷ n ∷ []) (positive (var 4) hm ⊠ positive (var 1) h ⊞ scaled (num (negsuc 0)) (same (var 4 ⊗ var 1) (var 5 ⊗ var 3) f) ⊞ scaled (var 5) (vanishing (minus (var 3)) k.0)) refl
+    impossible_by (rx ∷ ry ∷ dx ∷ dy ∷ m ∷ n ∷ [])
+    (positive (var 4) hm ⊠ positive (var 1) h ⊞ scaled (num (negsuc 0)) (same (var 4 ⊗ var 1) (var 5 ⊗ var 3) f)
+    ⊞ scaled (var 5) (vanishing (minus (var 3)) k.0)) refl
 up_down rx ry dx dy m n hm hn e f (inr h) (inl k) =
-    impossible_by (rx ∷ ry ∷ dx ∷ dy ∷ m ∷ n ∷ []) (positive (var 5) hn ⊠ positive (minus (var 3)) k ⊞ scaled (num (negsuc 0)) (same (var 4 ⊗ var 1) (var 5 ⊗ var 3) f) ⊞ scaled (var 4) (vanishing (var 1) h.0)) refl
+    impossible_by (rx ∷ ry ∷ dx ∷ dy ∷ m ∷ n ∷ [])
+    (positive (var 5) hn ⊠ positive (minus (var 3)) k ⊞ scaled (num (negsuc 0)) (same (var 4 ⊗ var 1) (var 5 ⊗ var 3) f)
+    ⊞ scaled (var 4) (vanishing (var 1) h.0)) refl
 up_down rx ry dx dy m n hm hn e f (inr h) (inr k) =
-    impossible_by (rx ∷ ry ∷ dx ∷ dy ∷ m ∷ n ∷ []) (positive (var 4) hm ⊠ positive (var 0) h.1 ⊞ positive (var 5) hn ⊠ positive (minus (var 2)) k.1 ⊞ scaled (num (negsuc 0)) (same (var 4 ⊗ var 0) (var 5 ⊗ var 2) e)) refl
+    impossible_by (rx ∷ ry ∷ dx ∷ dy ∷ m ∷ n ∷ [])
+    (positive (var 4) hm ⊠ positive (var 0) h.1 ⊞ positive (var 5) hn ⊠ positive (minus (var 2)) k.1
+    ⊞ scaled (num (negsuc 0)) (same (var 4 ⊗ var 0) (var 5 ⊗ var 2) e)) refl
 
 -- one of two directions is ahead of the other, or they point the same way
 data Order (d e : Direction) : Type 0 where
@@ -173,7 +202,8 @@ order_of : (d e : Direction) → Order d e
 order_of d e = go (past_half d.x d.y) (past_half e.x e.y) refl refl
   where
     level : past_half d.x d.y ≡ past_half e.x e.y → Order d e
-    level h = by_sign (bend_of d e) (λ n. is_after (inr (sym h, turned_bend n))) (λ z. is_same (level_way d e h z)) (λ p. is_before (inr (h, p)))
+    level h = by_sign (bend_of d e) (λ n. is_after (inr (sym h, turned_bend n))) (λ z. is_same (level_way d e h z))
+        (λ p. is_before (inr (h, p)))
       where
         turned_bend : bend_of d e <ℤ pos 0 → pos 0 <ℤ bend_of e d
         turned_bend n = less_bend d e n
@@ -187,32 +217,38 @@ order_of d e = go (past_half d.x d.y) (past_half e.x e.y) refl refl
 -- ---- in turn is strictly within
 opposed : (u w : Direction) → pos 0 <ℤ bend_of u w → pos 0 <ℤ bend_of w u → ⊥
 unfolding bend_of
-opposed u w h k = impossible_by (u.x ∷ u.y ∷ w.x ∷ w.y ∷ []) (positive (var 0 ⊗ var 3 ⊖ var 1 ⊗ var 2) h ⊞ positive (var 2 ⊗ var 1 ⊖ var 3 ⊗ var 0) k) refl
+opposed u w h k = impossible_by (u.x ∷ u.y ∷ w.x ∷ w.y ∷ [])
+    (positive (var 0 ⊗ var 3 ⊖ var 1 ⊗ var 2) h ⊞ positive (var 2 ⊗ var 1 ⊖ var 3 ⊗ var 0) k) refl
 
 in_turn_within : (r d s : Direction) → AreInTurn r d s → ¬ PointSameWay r d → IsStrictlyWithin r s d
-in_turn_within r d s (around_a h k) n = record { left = λ l. absurd (opposed r s l h); right = λ _. inl k; opposite = λ _ _. k; same = λ _. n }
+in_turn_within r d s (around_a h k) n = record
+    { left = λ l. absurd (opposed r s l h); right = λ _. inl k; opposite = λ _ _. k; same = λ _. n }
 in_turn_within r d s (around_b h k) n = record { left = λ l. (h, k); right = λ _. inl h; opposite = λ _ _. h; same = λ _. n }
-in_turn_within r d s (around_c h k) n = record { left = λ l. absurd (opposed r s l k); right = λ _. inr h; opposite = λ z _. absurd (bent z k); same = λ _. n }
+in_turn_within r d s (around_c h k) n = record
+    { left = λ l. absurd (opposed r s l k); right = λ _. inr h; opposite = λ z _. absurd (bent z k); same = λ _. n }
   where
     bent : bend_of r s ≡ pos 0 → pos 0 <ℤ bend_of s r → ⊥
     bent z k = <ℤ_apart (subst (λ (y : ℤ). y <ℤ pos 0) refl (bend_less r s k)) z
 
 ahead_apart : (r d : Direction) → IsAhead r d → ¬ PointSameWay r d
 ahead_apart r d (inr h) q = <ℤ_apart h.1 (sym (no_bend q))
-ahead_apart r d (inl h) q = up_down r.x r.y d.x d.y q.m q.n q.some q.other q.across q.above (up_from r.x r.y r.moves h.0) (down_from d.x d.y h.1)
+ahead_apart r d (inl h) q = up_down r.x r.y d.x d.y q.m q.n q.some q.other q.across q.above (up_from r.x r.y r.moves h.0)
+    (down_from d.x d.y h.1)
 
 -- ---- the place of a direction among rays
 pub data Found (rays : List Dir) (d : Direction) : Type 0 where
   on : (i : ℕ) (ray : Dir) → IsAtPlace rays i ray → PointSameWay (direction_of ray) d → Found rays d
   first : ((ray : Dir) → IsAtPlace rays 0 ray → IsAhead d (direction_of ray)) → Found rays d
-  between : (i : ℕ) (r s : Dir) → IsAtPlace rays i r → IsAtPlace rays (suc i) s → IsAhead (direction_of r) d → IsAhead d (direction_of s) → Found rays d
+  between : (i : ℕ) (r s : Dir) → IsAtPlace rays i r → IsAtPlace rays (suc i) s → IsAhead (direction_of r) d → IsAhead d (direction_of s)
+      → Found rays d
   last : (i : ℕ) (r : Dir) → IsAtPlace rays i r → suc i ≡ length rays → IsAhead (direction_of r) d → Found rays d
 
 pub find : (rays : List Dir) (d : Direction) → Found rays d
 find [] d = first (λ ray is. cc)
 find (r ∷ rays) d = by_first (order_of (direction_of r) d) (find rays d)
   where
-    after_first : (rest : List Dir) → IsAhead (direction_of r) d → ((ray : Dir) → IsAtPlace rest 0 ray → IsAhead d (direction_of ray)) → Found (r ∷ rest) d
+    after_first : (rest : List Dir) → IsAhead (direction_of r) d → ((ray : Dir) → IsAtPlace rest 0 ray → IsAhead d (direction_of ray))
+        → Found (r ∷ rest) d
     after_first [] h k = last 0 r refl refl h
     after_first (s ∷ rest) h k = between 0 r s refl refl h (k s refl)
 
@@ -234,13 +270,13 @@ way_to_left : {u w : Direction} (s : Direction) → PointSameWay u w → pos 0 <
 unfolding bend_of
 way_to_left {u} {w} s q h = go u.x u.y w.x w.y s.x s.y q.m q.n q.some q.other q.across q.above h
   where
-    go : (ux uy wx wy sx sy m n : ℤ) → pos 0 <ℤ m → pos 0 <ℤ n → m *ℤ ux ≡ n *ℤ wx → m *ℤ uy ≡ n *ℤ wy → pos 0 <ℤ ((sx *ℤ wy) -ℤ (sy *ℤ wx)) → pos 0 <ℤ ((sx *ℤ uy) -ℤ (sy *ℤ ux))
+    go : (ux uy wx wy sx sy m n : ℤ) → pos 0 <ℤ m → pos 0 <ℤ n → m *ℤ ux ≡ n *ℤ wx → m *ℤ uy ≡ n *ℤ wy
+        → pos 0 <ℤ ((sx *ℤ wy) -ℤ (sy *ℤ wx)) → pos 0 <ℤ ((sx *ℤ uy) -ℤ (sy *ℤ ux))
     go ux uy wx wy sx sy m n hm hn across above h =
         less_by (num (pos 0)) (var 4 ⊗ var 1 ⊖ var 5 ⊗ var 0) (ux ∷ uy ∷ wx ∷ wy ∷ sx ∷ sy ∷ m ∷ n ∷ [])
         (λ denied. denied ⊠ positive (var 6) hm ⊞ positive (var 7) hn ⊠ positive (var 4 ⊗ var 3 ⊖ var 5 ⊗ var 2) h
         ⊞ scaled (minus (var 5)) (same (var 6 ⊗ var 0) (var 7 ⊗ var 2) across)
         ⊞ scaled (var 4) (same (var 6 ⊗ var 1) (var 7 ⊗ var 3) above)) refl
-
 
 itself : (d : Direction) → PointSameWay d d
 itself d = record { m = pos 1; n = pos 1; some = omega (arith, linear); other = omega (arith, linear); across = refl; above = refl }
@@ -294,33 +330,40 @@ module _ (r₀ : Dir) (others : List Dir) (ascending : AllPairs (λ d e. compare
       let same : i + 1 ≡ length Rays = omega (arith, e) in
       subst (λ (j : ℕ). IsAtPlace Rays j r₀) (sym (ap (λ (n : ℕ). n % length Rays) same ∙ mod_self (length Rays))) refl
 
-  sector : (i : ℕ) (r s : Dir) → IsAtPlace Rays i r → IsAtPlace Rays ((i + 1) % length Rays) s → IsStrictlyWithin (direction_of r) (direction_of s) d → Around Rays d
-  sector i r s r_is s_is w = in_sector i (slice_get_within Rays i r r_is) (record { ray = r; next = s; ray_is = r_is; next_is = s_is; holds = w })
+  sector : (i : ℕ) (r s : Dir) → IsAtPlace Rays i r → IsAtPlace Rays ((i + 1) % length Rays) s
+      → IsStrictlyWithin (direction_of r) (direction_of s) d → Around Rays d
+  sector i r s r_is s_is w = in_sector i (slice_get_within Rays i r r_is)
+      (record { ray = r; next = s; ray_is = r_is; next_is = s_is; holds = w })
 
   next_place : {i : ℕ} → suc i < length Rays → (i + 1) % length Rays ≡ suc i
   next_place {i} h = let k : (i + 1) < length Rays = omega (arith, h) in mod-eq_of_lt k ∙ omega arith
 
-  around_between : (i : ℕ) (r s : Dir) → IsAtPlace Rays i r → IsAtPlace Rays (suc i) s → IsAhead (direction_of r) d → IsAhead d (direction_of s) → Around Rays d
+  around_between : (i : ℕ) (r s : Dir) → IsAtPlace Rays i r → IsAtPlace Rays (suc i) s → IsAhead (direction_of r) d
+      → IsAhead d (direction_of s) → Around Rays d
   around_between i r s r_is s_is h k =
       let below = slice_get_within Rays (suc i) s s_is in
       let here : (i + 1) % length Rays ≡ suc i = next_place below in
       sector i r s r_is (subst (λ (j : ℕ). IsAtPlace Rays j s) (sym here) s_is)
-      (in_turn_within (direction_of r) d (direction_of s) (in_turn (direction_of r) d (direction_of s) h k) (ahead_apart (direction_of r) d h))
+      (in_turn_within (direction_of r) d (direction_of s) (in_turn (direction_of r) d (direction_of s) h k)
+      (ahead_apart (direction_of r) d h))
 
   -- a single ray leaves the whole turn
   alone : (direction_of r₀ ≡ direction_of r₀ → ¬ PointSameWay (direction_of r₀) d) → IsStrictlyWithin (direction_of r₀) (direction_of r₀) d
   alone n = record {
     left = λ l. absurd (opposed (direction_of r₀) (direction_of r₀) l l);
-    right = λ l. absurd (opposed (direction_of r₀) (direction_of r₀) (less_bend (direction_of r₀) (direction_of r₀) l) (less_bend (direction_of r₀) (direction_of r₀) l));
+    right = λ l. absurd (opposed (direction_of r₀) (direction_of r₀) (less_bend (direction_of r₀) (direction_of r₀) l)
+        (less_bend (direction_of r₀) (direction_of r₀) l));
     opposite = λ _ m. absurd (m (itself (direction_of r₀)));
     same = λ _. n refl;
   }
 
-  at_last : (i : ℕ) (r : Dir) → IsAtPlace Rays i r → suc i ≡ length Rays → ¬ PointSameWay (direction_of r) d → (0 < i → AreInTurn (direction_of r) d (direction_of r₀)) → Around Rays d
+  at_last : (i : ℕ) (r : Dir) → IsAtPlace Rays i r → suc i ≡ length Rays → ¬ PointSameWay (direction_of r) d
+      → (0 < i → AreInTurn (direction_of r) d (direction_of r₀)) → Around Rays d
   at_last zero r r_is e n turned =
       let one : r₀ ≡ r = some_same r_is in
       sector 0 r₀ r₀ refl (wrapped 0 e) (alone (λ _. subst (λ (z : Dir). ¬ PointSameWay (direction_of z) d) (sym one) n))
-  at_last (suc i) r r_is e n turned = sector (suc i) r r₀ r_is (wrapped (suc i) e) (in_turn_within (direction_of r) d (direction_of r₀) (turned (omega arith)) n)
+  at_last (suc i) r r_is e n turned = sector (suc i) r r₀ r_is (wrapped (suc i) e)
+      (in_turn_within (direction_of r) d (direction_of r₀) (turned (omega arith)) n)
 
   around_found : Found Rays d → HasLast Rays → Around Rays d
   around_found (on i ray is q) l = on_ray i ray is q
@@ -332,10 +375,12 @@ module _ (r₀ : Dir) (others : List Dir) (ascending : AllPairs (λ d e. compare
       (λ some. turn_on (turn_on (in_turn d (direction_of r₀) (direction_of l.ray) ahead (in_order 0 l.place r₀ l.ray some refl l.is))))
     where
       last_ahead : (i : ℕ) (r : Dir) → IsAtPlace Rays i r → IsAhead d (direction_of r₀) → ¬ PointSameWay (direction_of r) d
-      last_ahead zero r is a q = ahead_apart d (direction_of r₀) a (turned_way (subst (λ (z : Dir). PointSameWay (direction_of z) d) (sym (some_same is)) q))
+      last_ahead zero r is a q = ahead_apart d (direction_of r₀) a
+          (turned_way (subst (λ (z : Dir). PointSameWay (direction_of z) d) (sym (some_same is)) q))
       last_ahead (suc i) r is a q =
           in_turn_apart d (direction_of r₀) (direction_of r) a (in_order 0 (suc i) r₀ r (omega arith) refl is) (turned_way q)
-  around_found (last i r is e h) l = at_last i r is e (ahead_apart (direction_of r) d h) (λ some. turn_on (in_turn (direction_of r₀) (direction_of r) d (in_order 0 i r₀ r some refl is) h))
+  around_found (last i r is e h) l = at_last i r is e (ahead_apart (direction_of r) d h)
+      (λ some. turn_on (in_turn (direction_of r₀) (direction_of r) d (in_order 0 i r₀ r some refl is) h))
 
 pub around : (rays : List Dir) → AllPairs (λ d e. compare_angles d e ≡ Less) rays → (d : Direction) → Around rays d
 around [] ascending d = in_sector 0 (omega arith) tt

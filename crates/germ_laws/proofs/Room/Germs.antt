@@ -31,7 +31,8 @@ AreAllAlike p q (e ∷ edges) = (is_on_edge p e ≡ is_on_edge q e) × AreAllAli
 
 pub record IsStarry (v : Point) (edges : List Seg) : Type 0 where
   pub n : ℕ
-  pub alike : (k : ℕ) → n ≤ k → (d : Direction) (p q : Point) → IsNear v k p → IsNear v k q → IsInCone v d d p → IsInCone v d d q → AreAllAlike p q edges
+  pub alike : (k : ℕ) → n ≤ k → (d : Direction) (p q : Point) → IsNear v k p → IsNear v k q → IsInCone v d d p → IsInCone v d d q
+      → AreAllAlike p q edges
 
 pub starry : (v : Point) (edges : List Seg) → IsStarry v edges
 starry v [] = record { n = 0; alike = λ k far d p q near_p near_q c c'. tt }
@@ -41,7 +42,8 @@ starry v (e ∷ edges) =
     record {
       n = first.n + rest.n;
       alike = λ k far d p q near_p near_q c c'. (
-        bool_same (is_on_edge p e) (is_on_edge q e) (first.alike k (omega arith) d p q near_p near_q c c') (first.alike k (omega arith) d q p near_q near_p c' c),
+        bool_same (is_on_edge p e) (is_on_edge q e) (first.alike k (omega arith) d p q near_p near_q c c')
+            (first.alike k (omega arith) d q p near_q near_p c' c),
         rest.alike k (omega arith) d p q near_p near_q c c',
       );
     }
@@ -51,15 +53,19 @@ alike_on_edges p q [] h = refl
 alike_on_edges p q (e ∷ edges) h = λ i. h.0 i || alike_on_edges p q edges h.1 i
 
 -- ---- what is between two points in a direction is in that direction
-cone_some : (s t n l u w : ℤ) → pos 0 ≤ℤ s → pos 0 ≤ℤ t → pos 0 <ℤ (s +ℤ t) → pos 0 <ℤ n → pos 0 <ℤ l → pos 0 <ℤ u → pos 0 <ℤ w → pos 0 <ℤ (((s *ℤ l) *ℤ u) +ℤ ((t *ℤ n) *ℤ w))
+cone_some : (s t n l u w : ℤ) → pos 0 ≤ℤ s → pos 0 ≤ℤ t → pos 0 <ℤ (s +ℤ t) → pos 0 <ℤ n → pos 0 <ℤ l → pos 0 <ℤ u → pos 0 <ℤ w
+    → pos 0 <ℤ (((s *ℤ l) *ℤ u) +ℤ ((t *ℤ n) *ℤ w))
 cone_some s t n l u w hs ht h hn hl hu hw =
     less_by (num (pos 0)) ((var 0 ⊗ var 3) ⊗ var 4 ⊕ (var 1 ⊗ var 2) ⊗ var 5) (s ∷ t ∷ n ∷ l ∷ u ∷ w ∷ [])
-    (λ denied. denied ⊞ natural (var 0) hs ⊠ whole (positive (var 3 ⊗ var 4) (pos-*-pos hl hu)) ⊞ natural (var 1) ht ⊠ whole (positive (var 2 ⊗ var 5) (pos-*-pos hn hw))
+    (λ denied. denied ⊞ natural (var 0) hs ⊠ whole (positive (var 3 ⊗ var 4) (pos-*-pos hl hu))
+    ⊞ natural (var 1) ht ⊠ whole (positive (var 2 ⊗ var 5) (pos-*-pos hn hw))
     ⊞ positive (var 0 ⊕ var 1) h) refl
 
-cone_step : (k s t ip jp tp iq jq tq x z p q : ℤ) → k *ℤ z ≡ (s *ℤ p) +ℤ (t *ℤ q) → tp *ℤ p ≡ (ip *ℤ x) +ℤ (jp *ℤ x) → tq *ℤ q ≡ (iq *ℤ x) +ℤ (jq *ℤ x) → (k *ℤ (tp *ℤ tq)) *ℤ z ≡ (((s *ℤ tq) *ℤ (ip +ℤ jp)) *ℤ x) +ℤ (((t *ℤ tp) *ℤ (iq +ℤ jq)) *ℤ x)
+cone_step : (k s t ip jp tp iq jq tq x z p q : ℤ) → k *ℤ z ≡ (s *ℤ p) +ℤ (t *ℤ q) → tp *ℤ p ≡ (ip *ℤ x) +ℤ (jp *ℤ x)
+    → tq *ℤ q ≡ (iq *ℤ x) +ℤ (jq *ℤ x) → (k *ℤ (tp *ℤ tq)) *ℤ z ≡ (((s *ℤ tq) *ℤ (ip +ℤ jp)) *ℤ x) +ℤ (((t *ℤ tp) *ℤ (iq +ℤ jq)) *ℤ x)
 cone_step k s t ip jp tp iq jq tq x z p q e f g =
-    same_from ((var 0 ⊗ (var 5 ⊗ var 8)) ⊗ var 10) (((var 1 ⊗ var 8) ⊗ (var 3 ⊕ var 4)) ⊗ var 9 ⊕ ((var 2 ⊗ var 5) ⊗ (var 6 ⊕ var 7)) ⊗ var 9)
+    same_from ((var 0 ⊗ (var 5 ⊗ var 8)) ⊗ var 10)
+    (((var 1 ⊗ var 8) ⊗ (var 3 ⊕ var 4)) ⊗ var 9 ⊕ ((var 2 ⊗ var 5) ⊗ (var 6 ⊕ var 7)) ⊗ var 9)
     (k ∷ s ∷ t ∷ ip ∷ jp ∷ tp ∷ iq ∷ jq ∷ tq ∷ x ∷ z ∷ p ∷ q ∷ [])
     (scaled (var 5 ⊗ var 8) (same (var 0 ⊗ var 10) (var 1 ⊗ var 11 ⊕ var 2 ⊗ var 12) e)
     ⊞ scaled (var 1 ⊗ var 8) (same (var 5 ⊗ var 11) (var 3 ⊗ var 9 ⊕ var 4 ⊗ var 9) f)
@@ -73,11 +79,14 @@ cone_mix {v} {d} {p} {q} {m} c k on =
       j = (on.t *ℤ c.times) *ℤ (k.i +ℤ k.j);
       first = nonneg-*-nonneg (nonneg-*-nonneg x.first (<ℤ_weaken k.positive)) (<ℤ_weaken c.some);
       second = nonneg-*-nonneg (nonneg-*-nonneg x.second (<ℤ_weaken c.positive)) (<ℤ_weaken k.some);
-      some = cone_some on.s on.t c.times k.times (c.i +ℤ c.j) (k.i +ℤ k.j) x.first x.second (some_weight x) c.positive k.positive c.some k.some;
+      some = cone_some on.s on.t c.times k.times (c.i +ℤ c.j) (k.i +ℤ k.j) x.first x.second
+          (some_weight x) c.positive k.positive c.some k.some;
       times = x.times *ℤ (c.times *ℤ k.times);
       positive = pos-*-pos x.some (pos-*-pos c.positive k.positive);
-      across = cone_step x.times on.s on.t c.i c.j c.times k.i k.j k.times d.x (shift v m) (shift v p) (shift v q) (shift_mix v x) c.across k.across;
-      above = cone_step x.times on.s on.t c.i c.j c.times k.i k.j k.times d.y (rise v m) (rise v p) (rise v q) (rise_mix v x) c.above k.above;
+      across = cone_step x.times on.s on.t c.i c.j c.times k.i k.j k.times d.x (shift v m) (shift v p) (shift v q)
+          (shift_mix v x) c.across k.across;
+      above = cone_step x.times on.s on.t c.i c.j c.times k.i k.j k.times d.y (rise v m) (rise v p) (rise v q)
+          (rise_mix v x) c.above k.above;
     }
 
 pub away_cone : {v : Point} {d : Direction} {n : ℕ} {p : Point} → 0 < n → IsAway v d n p → IsInCone v d d p
@@ -87,7 +96,8 @@ away_cone {v} {d} {n} {p} h away = between_in_cone h h away away (start_on_segme
 pub on_boundary : (area : Area) (p : Point) → is_on_edges p (edges_of_rings (rings_of area)) ≡ true → location area p ≡ Boundary
 on_boundary area p h = ap (λ z. location_by z (is_inside p area.shell) (list_any (is_inside p) area.holes)) h
 
-pub location_alike : (area : Area) → IsAreaShaped area → (v : Point) (r : IsStarry v (edges_of_rings (rings_of area))) (k : ℕ) → r.n ≤ k → (d : Direction) (p q : Point) → IsNear v k p → IsNear v k q → IsInCone v d d p → IsInCone v d d q → location area p ≡ location area q
+pub location_alike : (area : Area) → IsAreaShaped area → (v : Point) (r : IsStarry v (edges_of_rings (rings_of area))) (k : ℕ) → r.n ≤ k
+    → (d : Direction) (p q : Point) → IsNear v k p → IsNear v k q → IsInCone v d d p → IsInCone v d d q → location area p ≡ location area q
 location_alike area shaped v r k far d p q near_p near_q c c' = by_test (is_on_edges q edges) refl
   where
     edges : List Seg
@@ -112,6 +122,7 @@ germ_room area shaped v =
       germ = λ k far q near d c.
           record {
             from = far_for d k;
-            holds = λ n beyond p away. location_alike area shaped v r k far d p q (away_near k beyond away) near (away_cone (omega arith) away) c;
+            holds = λ n beyond p away. location_alike area shaped v r k far d p q (away_near k beyond away) near
+                (away_cone (omega arith) away) c;
           };
     }

@@ -15,14 +15,16 @@ use Rattle.plane_laws.proofs.Near.Away.{away_point, away_point_is, away_near, fa
 use Rattle.germ_laws.proofs.Room.Germs.{HasGermRoom}
 
 -- ---- near what is near
-near_sum : (m q qw v vw p pw : ℤ) → pos 0 <ℤ qw → pos 0 <ℤ pw → pos 0 <ℤ vw → ((m +ℤ m) *ℤ ((q *ℤ vw) -ℤ (v *ℤ qw))) ≤ℤ (vw *ℤ qw) → ((m +ℤ m) *ℤ ((p *ℤ qw) -ℤ (q *ℤ pw))) ≤ℤ (qw *ℤ pw) → (m *ℤ ((p *ℤ vw) -ℤ (v *ℤ pw))) ≤ℤ (vw *ℤ pw)
+near_sum : (m q qw v vw p pw : ℤ) → pos 0 <ℤ qw → pos 0 <ℤ pw → pos 0 <ℤ vw → ((m +ℤ m) *ℤ ((q *ℤ vw) -ℤ (v *ℤ qw))) ≤ℤ (vw *ℤ qw)
+    → ((m +ℤ m) *ℤ ((p *ℤ qw) -ℤ (q *ℤ pw))) ≤ℤ (qw *ℤ pw) → (m *ℤ ((p *ℤ vw) -ℤ (v *ℤ pw))) ≤ℤ (vw *ℤ pw)
 near_sum m q qw v vw p pw hq hp hv h k =
     at_most_by (var 0 ⊗ (var 5 ⊗ var 4 ⊖ var 3 ⊗ var 6)) (var 4 ⊗ var 6) (m ∷ q ∷ qw ∷ v ∷ vw ∷ p ∷ pw ∷ [])
     (λ denied. denied ⊠ positive (var 2) hq ⊞ denied ⊠ positive (var 2) hq
     ⊞ at_most ((var 0 ⊕ var 0) ⊗ (var 1 ⊗ var 4 ⊖ var 3 ⊗ var 2)) (var 4 ⊗ var 2) h ⊠ positive (var 6) hp
     ⊞ at_most ((var 0 ⊕ var 0) ⊗ (var 5 ⊗ var 2 ⊖ var 1 ⊗ var 6)) (var 2 ⊗ var 6) k ⊠ positive (var 4) hv) refl
 
-near_sum' : (m q qw v vw p pw : ℤ) → pos 0 <ℤ qw → pos 0 <ℤ pw → pos 0 <ℤ vw → neg_ℤ (vw *ℤ qw) ≤ℤ ((m +ℤ m) *ℤ ((q *ℤ vw) -ℤ (v *ℤ qw))) → neg_ℤ (qw *ℤ pw) ≤ℤ ((m +ℤ m) *ℤ ((p *ℤ qw) -ℤ (q *ℤ pw))) → neg_ℤ (vw *ℤ pw) ≤ℤ (m *ℤ ((p *ℤ vw) -ℤ (v *ℤ pw)))
+near_sum' : (m q qw v vw p pw : ℤ) → pos 0 <ℤ qw → pos 0 <ℤ pw → pos 0 <ℤ vw → neg_ℤ (vw *ℤ qw) ≤ℤ ((m +ℤ m) *ℤ ((q *ℤ vw) -ℤ (v *ℤ qw)))
+    → neg_ℤ (qw *ℤ pw) ≤ℤ ((m +ℤ m) *ℤ ((p *ℤ qw) -ℤ (q *ℤ pw))) → neg_ℤ (vw *ℤ pw) ≤ℤ (m *ℤ ((p *ℤ vw) -ℤ (v *ℤ pw)))
 near_sum' m q qw v vw p pw hq hp hv h k =
     at_most_by (minus (var 4 ⊗ var 6)) (var 0 ⊗ (var 5 ⊗ var 4 ⊖ var 3 ⊗ var 6)) (m ∷ q ∷ qw ∷ v ∷ vw ∷ p ∷ pw ∷ [])
     (λ denied. denied ⊠ positive (var 2) hq ⊞ denied ⊠ positive (var 2) hq
@@ -39,7 +41,8 @@ near_near {v} {q} {p} n h k = record {
 }
 
 -- ---- the direction of two steps
-pub bent_sum : (r t : Direction) (n l : ℤ) → pos 0 <ℤ n → ¬ (bend_of r t ≡ pos 0) → ¬ (((l *ℤ r.x) +ℤ (n *ℤ t.x) ≡ pos 0) × ((l *ℤ r.y) +ℤ (n *ℤ t.y) ≡ pos 0))
+pub bent_sum : (r t : Direction) (n l : ℤ) → pos 0 <ℤ n → ¬ (bend_of r t ≡ pos 0)
+    → ¬ (((l *ℤ r.x) +ℤ (n *ℤ t.x) ≡ pos 0) × ((l *ℤ r.y) +ℤ (n *ℤ t.y) ≡ pos 0))
 unfolding bend_of
 bent_sum r t n l h bent z =
     bent (zero_factor n ((r.x *ℤ t.y) -ℤ (r.y *ℤ t.x)) (pos_nonzero h)
@@ -54,7 +57,9 @@ both_ways r t bent n l = record {
   moves = bent_sum r t (pos (suc n)) (pos (suc l)) (omega (arith, linear)) bent;
 }
 
-pub two_steps : (n l r t q qw v vw p pw : ℤ) → n *ℤ ((q *ℤ vw) -ℤ (v *ℤ qw)) ≡ r *ℤ (vw *ℤ qw) → l *ℤ ((p *ℤ qw) -ℤ (q *ℤ pw)) ≡ t *ℤ (qw *ℤ pw) → ((n *ℤ l) *ℤ qw) *ℤ ((p *ℤ vw) -ℤ (v *ℤ pw)) ≡ (((vw *ℤ qw) *ℤ pw) *ℤ ((l *ℤ r) +ℤ (n *ℤ t))) +ℤ (pos 0 *ℤ ((l *ℤ r) +ℤ (n *ℤ t)))
+pub two_steps : (n l r t q qw v vw p pw : ℤ) → n *ℤ ((q *ℤ vw) -ℤ (v *ℤ qw)) ≡ r *ℤ (vw *ℤ qw)
+    → l *ℤ ((p *ℤ qw) -ℤ (q *ℤ pw)) ≡ t *ℤ (qw *ℤ pw) → ((n *ℤ l) *ℤ qw) *ℤ ((p *ℤ vw) -ℤ (v *ℤ pw)) ≡
+    (((vw *ℤ qw) *ℤ pw) *ℤ ((l *ℤ r) +ℤ (n *ℤ t))) +ℤ (pos 0 *ℤ ((l *ℤ r) +ℤ (n *ℤ t)))
 two_steps n l r t q qw v vw p pw e f =
     same_from (((var 0 ⊗ var 1) ⊗ var 5) ⊗ (var 8 ⊗ var 7 ⊖ var 6 ⊗ var 9))
     (((var 7 ⊗ var 5) ⊗ var 9) ⊗ (var 1 ⊗ var 2 ⊕ var 0 ⊗ var 3) ⊕ num (pos 0) ⊗ (var 1 ⊗ var 2 ⊕ var 0 ⊗ var 3))
@@ -62,7 +67,8 @@ two_steps n l r t q qw v vw p pw e f =
     (scaled (var 1 ⊗ var 9) (same (var 0 ⊗ (var 4 ⊗ var 7 ⊖ var 6 ⊗ var 5)) (var 2 ⊗ (var 7 ⊗ var 5)) e)
     ⊞ scaled (var 0 ⊗ var 7) (same (var 1 ⊗ (var 8 ⊗ var 5 ⊖ var 4 ⊗ var 9)) (var 3 ⊗ (var 5 ⊗ var 9)) f)) refl
 
-pub two_steps_cone : {v q p : Point} (r t : Direction) (bent : ¬ (bend_of r t ≡ pos 0)) (n l : ℕ) → IsAway v r (suc n) q → IsAway q t (suc l) p → IsInCone v (both_ways r t bent n l) (both_ways r t bent n l) p
+pub two_steps_cone : {v q p : Point} (r t : Direction) (bent : ¬ (bend_of r t ≡ pos 0)) (n l : ℕ) → IsAway v r (suc n) q
+    → IsAway q t (suc l) p → IsInCone v (both_ways r t bent n l) (both_ways r t bent n l) p
 unfolding both_ways shift rise
 two_steps_cone {v} {q} {p} r t bent n l away away' =
     let some_n : pos 0 <ℤ pos (suc n) = omega (arith, linear) in

@@ -38,7 +38,8 @@ cone_way {v} {d} {e} {p} q c = record {
         (scaled (var 3) (same (var 0 ⊗ var 7) (var 1 ⊗ var 5 ⊕ var 2 ⊗ var 5) e)
         ⊞ scaled (var 1 ⊕ var 2) (same (var 3 ⊗ var 5) (var 4 ⊗ var 6) f)) refl
 
-pub germ_of_way : (area : Area) → IsAreaShaped area → (v : Point) (d e : Direction) → PointSameWay d e → (g : Loc) → IsGerm area v d g → IsGerm area v e g
+pub germ_of_way : (area : Area) → IsAreaShaped area → (v : Point) (d e : Direction) → PointSameWay d e → (g : Loc) → IsGerm area v d g
+    → IsGerm area v e g
 germ_of_way area shaped v d e q g is =
     let r = germ_room area shaped v in
     let n = is.from + far_for d r.n in
@@ -51,4 +52,5 @@ left_turn d = record { x = neg_ℤ d.y; y = d.x; moves = λ z. d.moves (z.1, let
 
 pub left_turn_left : (d : Direction) → pos 0 <ℤ bend_of d (left_turn d)
 unfolding bend_of left_turn
-left_turn_left d = subst (λ (z : ℤ). pos 0 <ℤ z) (identity (var 0 ⊗ var 0 ⊕ var 1 ⊗ var 1) (var 0 ⊗ var 0 ⊖ var 1 ⊗ minus (var 1)) (d.x ∷ d.y ∷ []) refl) (squares d.x d.y d.moves)
+left_turn_left d = subst (λ (z : ℤ). pos 0 <ℤ z)
+    (identity (var 0 ⊗ var 0 ⊕ var 1 ⊗ var 1) (var 0 ⊗ var 0 ⊖ var 1 ⊗ minus (var 1)) (d.x ∷ d.y ∷ []) refl) (squares d.x d.y d.moves)

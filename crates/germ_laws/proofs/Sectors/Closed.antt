@@ -1,4 +1,5 @@
--- Just to the left of a ray one is strictly within the sector after it; so what an area covers in a sector, it covers on the sector's first ray.
+-- Just to the left of a ray one is strictly within the sector after it; so what an area covers in a sector, it covers on the
+-- sector's first ray.
 use Rattle.std.proofs.Common.{◌≡◌, inl, ℕ, suc, ◌+◌, ◌*◌, ◌≤◌, ◌<◌, ℤ, pos, ◌+ℤ◌, ◌-ℤ◌, ◌*ℤ◌, neg_ℤ, ◌<ℤ◌, ◌≤ℤ◌, Bool, true, false, List, [], ◌∷◌, refl, sym, ◌∙◌, arith}
 use Rattle.std.specs.List.{list_any}
 use Rattle.im_matrix.specs.declared.Loc.{Loc}
@@ -28,12 +29,15 @@ use Rattle.germ_laws.proofs.Room.Germs.{germ_room}
 use Rattle.germ_laws.proofs.Room.TwoSteps.{both_ways, germ_from_step}
 
 -- ---- just to the left of a ray
-left_of_sum : (rx ry tx ty n l : ℤ) → pos 0 <ℤ n → pos 0 <ℤ ((rx *ℤ ty) -ℤ (ry *ℤ tx)) → pos 0 <ℤ ((rx *ℤ ((l *ℤ ry) +ℤ (n *ℤ ty))) -ℤ (ry *ℤ ((l *ℤ rx) +ℤ (n *ℤ tx))))
+left_of_sum : (rx ry tx ty n l : ℤ) → pos 0 <ℤ n → pos 0 <ℤ ((rx *ℤ ty) -ℤ (ry *ℤ tx))
+    → pos 0 <ℤ ((rx *ℤ ((l *ℤ ry) +ℤ (n *ℤ ty))) -ℤ (ry *ℤ ((l *ℤ rx) +ℤ (n *ℤ tx))))
 left_of_sum rx ry tx ty n l hn h =
-    less_by (num (pos 0)) (var 0 ⊗ (var 5 ⊗ var 1 ⊕ var 4 ⊗ var 3) ⊖ var 1 ⊗ (var 5 ⊗ var 0 ⊕ var 4 ⊗ var 2)) (rx ∷ ry ∷ tx ∷ ty ∷ n ∷ l ∷ [])
+    less_by (num (pos 0)) (var 0 ⊗ (var 5 ⊗ var 1 ⊕ var 4 ⊗ var 3) ⊖ var 1 ⊗ (var 5 ⊗ var 0 ⊕ var 4 ⊗ var 2))
+    (rx ∷ ry ∷ tx ∷ ty ∷ n ∷ l ∷ [])
     (λ denied. denied ⊞ positive (var 4) hn ⊠ positive (var 0 ⊗ var 3 ⊖ var 1 ⊗ var 2) h) refl
 
-right_of_sum : (rx ry tx ty sx sy n l size : ℤ) → pos 0 ≤ℤ n → pos 0 ≤ℤ l → (n *ℤ size) <ℤ l → pos 0 <ℤ ((rx *ℤ sy) -ℤ (ry *ℤ sx)) → neg_ℤ size ≤ℤ ((tx *ℤ sy) -ℤ (ty *ℤ sx)) → pos 0 <ℤ ((((l *ℤ rx) +ℤ (n *ℤ tx)) *ℤ sy) -ℤ (((l *ℤ ry) +ℤ (n *ℤ ty)) *ℤ sx))
+right_of_sum : (rx ry tx ty sx sy n l size : ℤ) → pos 0 ≤ℤ n → pos 0 ≤ℤ l → (n *ℤ size) <ℤ l → pos 0 <ℤ ((rx *ℤ sy) -ℤ (ry *ℤ sx))
+    → neg_ℤ size ≤ℤ ((tx *ℤ sy) -ℤ (ty *ℤ sx)) → pos 0 <ℤ ((((l *ℤ rx) +ℤ (n *ℤ tx)) *ℤ sy) -ℤ (((l *ℤ ry) +ℤ (n *ℤ ty)) *ℤ sx))
 right_of_sum rx ry tx ty sx sy n l size hn hl far h k =
     less_by (num (pos 0)) ((var 7 ⊗ var 0 ⊕ var 6 ⊗ var 2) ⊗ var 5 ⊖ (var 7 ⊗ var 1 ⊕ var 6 ⊗ var 3) ⊗ var 4)
     (rx ∷ ry ∷ tx ∷ ty ∷ sx ∷ sy ∷ n ∷ l ∷ size ∷ [])
@@ -41,10 +45,15 @@ right_of_sum rx ry tx ty sx sy n l size hn hl far h k =
     ⊞ natural (var 6) hn ⊠ at_most (minus (var 8)) (var 2 ⊗ var 5 ⊖ var 3 ⊗ var 4) k
     ⊞ less (var 6 ⊗ var 8) (var 7) far) refl
 
-pub just_left : (r s t : Direction) (h : pos 0 <ℤ bend_of r t) (bent : ¬ (bend_of r t ≡ pos 0)) (n l : ℕ) → (pos (suc n) *ℤ pos (size_of (bend_of t s))) <ℤ pos (suc l) → IsStrictlyWithin r s (both_ways r t bent n l)
+pub just_left : (r s t : Direction) (h : pos 0 <ℤ bend_of r t) (bent : ¬ (bend_of r t ≡ pos 0)) (n l : ℕ)
+    → (pos (suc n) *ℤ pos (size_of (bend_of t s))) <ℤ pos (suc l) → IsStrictlyWithin r s (both_ways r t bent n l)
 unfolding bend_of both_ways
 just_left r s t h bent n l far = record {
-  left = λ k. (left, right_of_sum r.x r.y t.x t.y s.x s.y (pos (suc n)) (pos (suc l)) (pos (size_of ((t.x *ℤ s.y) -ℤ (t.y *ℤ s.x)))) (omega (arith, linear)) (omega (arith, linear)) far k (size_is ((t.x *ℤ s.y) -ℤ (t.y *ℤ s.x))).above);
+  left = λ k. (
+    left,
+    right_of_sum r.x r.y t.x t.y s.x s.y (pos (suc n)) (pos (suc l)) (pos (size_of ((t.x *ℤ s.y) -ℤ (t.y *ℤ s.x))))
+        (omega (arith, linear)) (omega (arith, linear)) far k (size_is ((t.x *ℤ s.y) -ℤ (t.y *ℤ s.x))).above,
+  );
   right = λ _. inl left;
   opposite = λ _ _. left;
   same = λ _ q. <ℤ_apart left (sym (no_bend q));
@@ -60,14 +69,19 @@ none_held v m (e ∷ edges) off both =
     let tests = or_parts (is_on_edge v e) (is_on_edges v edges) off in
     or_from (is_on_edge m e) (is_on_edges m edges) (both.0 tests.0) (none_held v m edges tests.1 both.1)
 
-pub settled : (area : Area) → IsAreaShaped area → (v : Point) → is_on_edges v (edges_of_rings (rings_of area)) ≡ false → (d : Direction) → IsGerm area v d (location area v)
+pub settled : (area : Area) → IsAreaShaped area → (v : Point) → is_on_edges v (edges_of_rings (rings_of area)) ≡ false → (d : Direction)
+    → IsGerm area v d (location area v)
 settled area shaped v off d =
     let edges = edges_of_rings (rings_of area) in
     let r = room v edges in
     record {
       from = far_for d r.n;
       holds = λ n far q away.
-          location_stays q v area shaped (record { off = λ m on. none_held v m edges off (r.free r.n (omega arith) m (near_mix (away_near r.n far away) (near_self v r.n) on)) });
+          location_stays q v area shaped
+          (record {
+            off = λ m on. none_held v m edges off
+                (r.free r.n (omega arith) m (near_mix (away_near r.n far away) (near_self v r.n) on));
+          });
     }
 
 pub off_edges : (area : Area) (q : Point) → location area q ≡ Exterior → is_on_edges q (edges_of_rings (rings_of area)) ≡ false
@@ -78,7 +92,9 @@ off_edges area q = go (is_on_edges q (edges_of_rings (rings_of area))) (is_insid
     go false s h e = refl
 
 -- ---- what is in a sector is on its first ray: by the germs, where the first ray is outside, so is the sector
-pub sector_is_closed : (area : Area) → IsAreaShaped area → (v : Point) (r s : Direction) → HasNoEdgeWithin area v r s → (t : Direction) → pos 0 <ℤ bend_of r t → IsGerm area v r Exterior → (d : Direction) → IsStrictlyWithin r s d → (g : Loc) → IsGerm area v d g → g ≡ Exterior
+pub sector_is_closed : (area : Area) → IsAreaShaped area → (v : Point) (r s : Direction) → HasNoEdgeWithin area v r s → (t : Direction)
+    → pos 0 <ℤ bend_of r t → IsGerm area v r Exterior → (d : Direction) → IsStrictlyWithin r s d → (g : Loc) → IsGerm area v d g
+    → g ≡ Exterior
 sector_is_closed area shaped v r s free t left out d within g is =
     let rooms = germ_room area shaped v in
     let n = out.from + far_for r (rooms.n + rooms.n) in
@@ -89,4 +105,5 @@ sector_is_closed area shaped v r s free t left out d within g is =
     let size = size_of (bend_of t s) in
     let l = (beside.from + far_for t (rooms.n + rooms.n)) + suc n * size in
     let aside = germ_from_step area v rooms r t bent n (omega arith) (location area q) beside l (omega arith) in
-    same_in_sector area shaped v r s free d (both_ways r t bent n l) within (just_left r s t left bent n l (omega (arith, linear))) g (location area q) is aside ∙ here
+    same_in_sector area shaped v r s free d (both_ways r t bent n l) within (just_left r s t left bent n l (omega (arith, linear))) g
+    (location area q) is aside ∙ here

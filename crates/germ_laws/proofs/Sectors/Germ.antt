@@ -41,10 +41,13 @@ cone_sum : {v : Point} {d e : Direction} {a : Point} (c : IsInCone v d e a) → 
 cone_sum c = record { i = c.i; j = c.j; first = c.first; second = c.second; some = c.some; across = c.across; above = c.above }
 
 zero_sum : {d e : Direction} {x y : ℤ} → IsSum d e x y → x ≡ pos 0 → y ≡ pos 0 → IsSum d e (pos 0) (pos 0)
-zero_sum q h k = record { i = q.i; j = q.j; first = q.first; second = q.second; some = q.some; across = sym h ∙ q.across; above = sym k ∙ q.above }
+zero_sum q h k = record
+    { i = q.i; j = q.j; first = q.first; second = q.second; some = q.some; across = sym h ∙ q.across; above = sym k ∙ q.above }
 
 cone_pointed : (v : Point) {d e : Direction} → ArePointed d e → ¬ IsInCone v d e v
-cone_pointed v n c = n (zero_sum (cone_sum c) (ap (λ z. c.times *ℤ z) (shift_self v) ∙ *ℤ-zero c.times) (ap (λ z. c.times *ℤ z) (rise_self v) ∙ *ℤ-zero c.times))
+cone_pointed v n c = n
+    (zero_sum (cone_sum c) (ap (λ z. c.times *ℤ z) (shift_self v) ∙ *ℤ-zero c.times)
+    (ap (λ z. c.times *ℤ z) (rise_self v) ∙ *ℤ-zero c.times))
 
 -- the direction from v to a point between the two
 pub toward : {v : Point} {d e : Direction} {a : Point} → ArePointed d e → IsInCone v d e a → Direction
@@ -54,7 +57,8 @@ toward_sum : {v : Point} {d e : Direction} {a : Point} (n : ArePointed d e) (c :
 unfolding toward
 toward_sum n c = cone_sum c
 
-pub toward_is : {v : Point} {d e : Direction} {a : Point} (n : ArePointed d e) (c : IsInCone v d e a) → IsInCone v (toward n c) (toward n c) a
+pub toward_is : {v : Point} {d e : Direction} {a : Point} (n : ArePointed d e) (c : IsInCone v d e a)
+    → IsInCone v (toward n c) (toward n c) a
 unfolding toward
 toward_is {v} {d} {e} {a} n c = record {
   i = pos 1;
@@ -76,7 +80,8 @@ abbrev HaveOneGerm : Area → Point → Direction → Direction → Type 0
 HaveOneGerm area v d e = (g h : Loc) → IsGerm area v d g → IsGerm area v e h → g ≡ h
 
 -- ---- one step: where all directions between d and e lie strictly within the sector
-step : (area : Area) → IsAreaShaped area → (v : Point) (r s : Direction) → HasNoEdgeWithin area v r s → (d e : Direction) → ArePointed d e → ((t : Direction) → IsSum d e t.x t.y → IsStrictlyWithin r s t) → HaveOneGerm area v d e
+step : (area : Area) → IsAreaShaped area → (v : Point) (r s : Direction) → HasNoEdgeWithin area v r s → (d e : Direction) → ArePointed d e
+    → ((t : Direction) → IsSum d e t.x t.y → IsStrictlyWithin r s t) → HaveOneGerm area v d e
 step area shaped v r s free d e n within =
     germ_same area shaped v d e (cone_pointed v n)
     (clear_from v d e (edges_of_rings (rings_of area)) (λ place f is on. (
@@ -85,18 +90,24 @@ step area shaped v r s free d e n within =
     )))
 
 -- ---- the left of a direction, and the right of one
-left_value : (rx ry dx dy ex ey i j x y : ℤ) → pos 0 ≤ℤ i → pos 0 ≤ℤ j → pos 0 <ℤ (i +ℤ j) → x ≡ (i *ℤ dx) +ℤ (j *ℤ ex) → y ≡ (i *ℤ dy) +ℤ (j *ℤ ey) → pos 0 <ℤ ((rx *ℤ dy) -ℤ (ry *ℤ dx)) → pos 0 <ℤ ((rx *ℤ ey) -ℤ (ry *ℤ ex)) → pos 0 <ℤ ((rx *ℤ y) -ℤ (ry *ℤ x))
+left_value : (rx ry dx dy ex ey i j x y : ℤ) → pos 0 ≤ℤ i → pos 0 ≤ℤ j → pos 0 <ℤ (i +ℤ j) → x ≡ (i *ℤ dx) +ℤ (j *ℤ ex)
+    → y ≡ (i *ℤ dy) +ℤ (j *ℤ ey) → pos 0 <ℤ ((rx *ℤ dy) -ℤ (ry *ℤ dx)) → pos 0 <ℤ ((rx *ℤ ey) -ℤ (ry *ℤ ex))
+    → pos 0 <ℤ ((rx *ℤ y) -ℤ (ry *ℤ x))
 left_value rx ry dx dy ex ey i j x y hi hj h across above k l =
     less_by (num (pos 0)) (var 0 ⊗ var 9 ⊖ var 1 ⊗ var 8) (rx ∷ ry ∷ dx ∷ dy ∷ ex ∷ ey ∷ i ∷ j ∷ x ∷ y ∷ [])
-    (λ denied. denied ⊞ natural (var 6) hi ⊠ whole (positive (var 0 ⊗ var 3 ⊖ var 1 ⊗ var 2) k) ⊞ natural (var 7) hj ⊠ whole (positive (var 0 ⊗ var 5 ⊖ var 1 ⊗ var 4) l)
+    (λ denied. denied ⊞ natural (var 6) hi ⊠ whole (positive (var 0 ⊗ var 3 ⊖ var 1 ⊗ var 2) k)
+    ⊞ natural (var 7) hj ⊠ whole (positive (var 0 ⊗ var 5 ⊖ var 1 ⊗ var 4) l)
     ⊞ positive (var 6 ⊕ var 7) h
     ⊞ scaled (var 0) (same (var 9) (var 6 ⊗ var 3 ⊕ var 7 ⊗ var 5) above)
     ⊞ scaled (minus (var 1)) (same (var 8) (var 6 ⊗ var 2 ⊕ var 7 ⊗ var 4) across)) refl
 
-right_value : (sx sy dx dy ex ey i j x y : ℤ) → pos 0 ≤ℤ i → pos 0 ≤ℤ j → pos 0 <ℤ (i +ℤ j) → x ≡ (i *ℤ dx) +ℤ (j *ℤ ex) → y ≡ (i *ℤ dy) +ℤ (j *ℤ ey) → pos 0 <ℤ ((dx *ℤ sy) -ℤ (dy *ℤ sx)) → pos 0 <ℤ ((ex *ℤ sy) -ℤ (ey *ℤ sx)) → pos 0 <ℤ ((x *ℤ sy) -ℤ (y *ℤ sx))
+right_value : (sx sy dx dy ex ey i j x y : ℤ) → pos 0 ≤ℤ i → pos 0 ≤ℤ j → pos 0 <ℤ (i +ℤ j) → x ≡ (i *ℤ dx) +ℤ (j *ℤ ex)
+    → y ≡ (i *ℤ dy) +ℤ (j *ℤ ey) → pos 0 <ℤ ((dx *ℤ sy) -ℤ (dy *ℤ sx)) → pos 0 <ℤ ((ex *ℤ sy) -ℤ (ey *ℤ sx))
+    → pos 0 <ℤ ((x *ℤ sy) -ℤ (y *ℤ sx))
 right_value sx sy dx dy ex ey i j x y hi hj h across above k l =
     less_by (num (pos 0)) (var 8 ⊗ var 1 ⊖ var 9 ⊗ var 0) (sx ∷ sy ∷ dx ∷ dy ∷ ex ∷ ey ∷ i ∷ j ∷ x ∷ y ∷ [])
-    (λ denied. denied ⊞ natural (var 6) hi ⊠ whole (positive (var 2 ⊗ var 1 ⊖ var 3 ⊗ var 0) k) ⊞ natural (var 7) hj ⊠ whole (positive (var 4 ⊗ var 1 ⊖ var 5 ⊗ var 0) l)
+    (λ denied. denied ⊞ natural (var 6) hi ⊠ whole (positive (var 2 ⊗ var 1 ⊖ var 3 ⊗ var 0) k)
+    ⊞ natural (var 7) hj ⊠ whole (positive (var 4 ⊗ var 1 ⊖ var 5 ⊗ var 0) l)
     ⊞ positive (var 6 ⊕ var 7) h
     ⊞ scaled (minus (var 0)) (same (var 9) (var 6 ⊗ var 3 ⊕ var 7 ⊗ var 5) above)
     ⊞ scaled (var 1) (same (var 8) (var 6 ⊗ var 2 ⊕ var 7 ⊗ var 4) across)) refl
@@ -113,7 +124,8 @@ left_stays r d e k l t q = left_value r.x r.y d.x d.y e.x e.y q.i q.j t.x t.y q.
 
 left_pointed : (r d e : Direction) → pos 0 <ℤ bend_of r d → pos 0 <ℤ bend_of r e → ArePointed d e
 unfolding bend_of
-left_pointed r d e k l q = nothing_left r.x r.y (left_value r.x r.y d.x d.y e.x e.y q.i q.j (pos 0) (pos 0) q.first q.second q.some q.across q.above k l)
+left_pointed r d e k l q = nothing_left r.x r.y
+    (left_value r.x r.y d.x d.y e.x e.y q.i q.j (pos 0) (pos 0) q.first q.second q.some q.across q.above k l)
 
 right_stays : (s d e : Direction) → pos 0 <ℤ bend_of d s → pos 0 <ℤ bend_of e s → (t : Direction) → IsSum d e t.x t.y → pos 0 <ℤ bend_of t s
 unfolding bend_of
@@ -121,12 +133,15 @@ right_stays s d e k l t q = right_value s.x s.y d.x d.y e.x e.y q.i q.j t.x t.y 
 
 right_pointed : (s d e : Direction) → pos 0 <ℤ bend_of d s → pos 0 <ℤ bend_of e s → ArePointed d e
 unfolding bend_of
-right_pointed s d e k l q = nothing_right s.y s.x (right_value s.x s.y d.x d.y e.x e.y q.i q.j (pos 0) (pos 0) q.first q.second q.some q.across q.above k l)
+right_pointed s d e k l q = nothing_right s.y s.x
+    (right_value s.x s.y d.x d.y e.x e.y q.i q.j (pos 0) (pos 0) q.first q.second q.some q.across q.above k l)
 
 -- ---- the same way
 -- k of r are l of d, for k and l of at least 0 that aren't both 0
-same_way_from : (r d : Direction) (k l : ℤ) → pos 0 ≤ℤ k → pos 0 ≤ℤ l → pos 0 <ℤ (k +ℤ l) → k *ℤ r.x ≡ l *ℤ d.x → k *ℤ r.y ≡ l *ℤ d.y → PointSameWay r d
-same_way_from r d k l hk hl h across above = by_sign k (λ n. absurd (under k n hk)) (λ z. absurd (d.moves (none_first r.x d.x z across, none_first r.y d.y z above))) some_k
+same_way_from : (r d : Direction) (k l : ℤ) → pos 0 ≤ℤ k → pos 0 ≤ℤ l → pos 0 <ℤ (k +ℤ l) → k *ℤ r.x ≡ l *ℤ d.x → k *ℤ r.y ≡ l *ℤ d.y
+    → PointSameWay r d
+same_way_from r d k l hk hl h across above = by_sign k (λ n. absurd (under k n hk))
+    (λ z. absurd (d.moves (none_first r.x d.x z across, none_first r.y d.y z above))) some_k
   where
     under : (a : ℤ) → a <ℤ pos 0 → pos 0 ≤ℤ a → ⊥
     under a n m = omega (arith, linear, n, m)
@@ -138,7 +153,8 @@ same_way_from r d k l hk hl h across above = by_sign k (λ n. absurd (under k n 
     none_second x y z e = zero_factor k x (λ w. <ℤ_apart h (omega (arith, linear, z, w))) (e ∙ ap (λ a. a *ℤ y) z ∙ zero-*ℤ y)
 
     some_k : pos 0 <ℤ k → PointSameWay r d
-    some_k p = by_sign l (λ n. absurd (under l n hl)) (λ z. absurd (r.moves (none_second r.x d.x z across, none_second r.y d.y z above))) (λ q. record { m = k; n = l; some = p; other = q; across = across; above = above })
+    some_k p = by_sign l (λ n. absurd (under l n hl)) (λ z. absurd (r.moves (none_second r.x d.x z across, none_second r.y d.y z above)))
+        (λ q. record { m = k; n = l; some = p; other = q; across = across; above = above })
 
 unfoldable pub dot_of_ways : Direction → Direction → ℤ
 dot_of_ways u w = (u.x *ℤ w.x) +ℤ (u.y *ℤ w.y)
@@ -162,7 +178,8 @@ same_ahead : (r s : Direction) → PointSameWay r s → pos 0 <ℤ dot_of_ways r
 unfolding dot_of_ways
 same_ahead r s h = go r.x r.y s.x s.y h.m h.n h.some h.other h.across h.above (moving r)
   where
-    go : (rx ry sx sy m n : ℤ) → pos 0 <ℤ m → pos 0 <ℤ n → m *ℤ rx ≡ n *ℤ sx → m *ℤ ry ≡ n *ℤ sy → pos 0 <ℤ ((rx *ℤ rx) +ℤ (ry *ℤ ry)) → pos 0 <ℤ ((rx *ℤ sx) +ℤ (ry *ℤ sy))
+    go : (rx ry sx sy m n : ℤ) → pos 0 <ℤ m → pos 0 <ℤ n → m *ℤ rx ≡ n *ℤ sx → m *ℤ ry ≡ n *ℤ sy → pos 0 <ℤ ((rx *ℤ rx) +ℤ (ry *ℤ ry))
+        → pos 0 <ℤ ((rx *ℤ sx) +ℤ (ry *ℤ sy))
     go rx ry sx sy m n hm hn across above h =
         less_by (num (pos 0)) (var 0 ⊗ var 2 ⊕ var 1 ⊗ var 3) (rx ∷ ry ∷ sx ∷ sy ∷ m ∷ n ∷ [])
         (λ denied. denied ⊠ positive (var 5) hn ⊞ positive (var 4) hm ⊠ positive (var 0 ⊗ var 0 ⊕ var 1 ⊗ var 1) h
@@ -171,7 +188,8 @@ same_ahead r s h = go r.x r.y s.x s.y h.m h.n h.some h.other h.across h.above (m
 
 -- directions on one line point the same way or they don't
 same_or_opposite : (r s : Direction) → bend_of r s ≡ pos 0 → PointSameWay r s ⊎ (¬ PointSameWay r s)
-same_or_opposite r s z = by_sign (dot_of_ways r s) (λ h. inr (λ q. not_ahead (<ℤ_weaken h) q)) (λ e. inr (λ q. <ℤ_apart (same_ahead r s q) (sym e))) (λ h. inl (level_same r s z h))
+same_or_opposite r s z = by_sign (dot_of_ways r s) (λ h. inr (λ q. not_ahead (<ℤ_weaken h) q))
+    (λ e. inr (λ q. <ℤ_apart (same_ahead r s q) (sym e))) (λ h. inl (level_same r s z h))
   where
     not_ahead : dot_of_ways r s ≤ℤ pos 0 → ¬ PointSameWay r s
     not_ahead h q = let k = same_ahead r s q in omega (arith, linear, h, k)
@@ -188,7 +206,8 @@ back_stays : (r d : Direction) → ¬ PointSameWay r d → (t : Direction) → I
 unfolding back
 back_stays r d n t q h =
     n (same_way_from r d (h.m +ℤ (h.n *ℤ q.j)) (h.n *ℤ q.i) (<ℤ_weaken more) (nonneg-*-nonneg (<ℤ_weaken h.other) q.first)
-    (pos-+-nonneg more (nonneg-*-nonneg (<ℤ_weaken h.other) q.first)) (along h.m h.n q.i q.j r.x d.x t.x q.across h.across) (along h.m h.n q.i q.j r.y d.y t.y q.above h.above))
+    (pos-+-nonneg more (nonneg-*-nonneg (<ℤ_weaken h.other) q.first)) (along h.m h.n q.i q.j r.x d.x t.x q.across h.across)
+    (along h.m h.n q.i q.j r.y d.y t.y q.above h.above))
   where
     more : pos 0 <ℤ (h.m +ℤ (h.n *ℤ q.j))
     more = pos-+-nonneg h.some (nonneg-*-nonneg (<ℤ_weaken h.other) q.second)
@@ -200,13 +219,15 @@ back_stays r d n t q h =
 
 back_pointed : (r d : Direction) → ¬ PointSameWay r d → ArePointed d (back r)
 unfolding back
-back_pointed r d n q = n (same_way_from r d q.j q.i q.second q.first (swapped q.i q.j q.some) (along q.i q.j r.x d.x q.across) (along q.i q.j r.y d.y q.above))
+back_pointed r d n q = n
+    (same_way_from r d q.j q.i q.second q.first (swapped q.i q.j q.some) (along q.i q.j r.x d.x q.across) (along q.i q.j r.y d.y q.above))
   where
     swapped : (i j : ℤ) → pos 0 <ℤ (i +ℤ j) → pos 0 <ℤ (j +ℤ i)
     swapped i j h = omega (arith, linear, h)
 
     along : (i j x y : ℤ) → pos 0 ≡ (i *ℤ y) +ℤ (j *ℤ neg_ℤ x) → j *ℤ x ≡ i *ℤ y
-    along i j x y e = same_from (var 1 ⊗ var 2) (var 0 ⊗ var 3) (i ∷ j ∷ x ∷ y ∷ []) (same (num (pos 0)) (var 0 ⊗ var 3 ⊕ var 1 ⊗ minus (var 2)) e) refl
+    along i j x y e = same_from (var 1 ⊗ var 2) (var 0 ⊗ var 3) (i ∷ j ∷ x ∷ y ∷ [])
+        (same (num (pos 0)) (var 0 ⊗ var 3 ⊕ var 1 ⊗ minus (var 2)) e) refl
 
 -- ---- the direction opposite to the sum of r and s
 middle_moves : (r s : Direction) → bend_of r s <ℤ pos 0 → ¬ ((neg_ℤ (r.x +ℤ s.x) ≡ pos 0) × (neg_ℤ (r.y +ℤ s.y) ≡ pos 0))
@@ -278,13 +299,15 @@ within_whole same n = record {
 module _ (area : Area) (shaped : IsAreaShaped area) (v : Point) (r s : Direction) (free : HasNoEdgeWithin area v r s) where
   -- along two directions that each have the same germ as a third
   by_way_of : (m d e : Direction) → HaveOneGerm area v d m → HaveOneGerm area v e m → HaveOneGerm area v d e
-  by_way_of m d e from_d from_e g h is_g is_h = let k = germ_exists area shaped v m in from_d g k.germ is_g k.is ∙ sym (from_e h k.germ is_h k.is)
+  by_way_of m d e from_d from_e g h is_g is_h = let k = germ_exists area shaped v m in from_d g k.germ is_g k.is
+      ∙ sym (from_e h k.germ is_h k.is)
 
   narrow_sector : pos 0 <ℤ bend_of r s → (d e : Direction) → IsStrictlyWithin r s d → IsStrictlyWithin r s e → HaveOneGerm area v d e
   narrow_sector p d e in_d in_e =
       let a = in_d.left p in
       let b = in_e.left p in
-      step area shaped v r s free d e (left_pointed r d e a.0 b.0) (λ t q. within_left p (left_stays r d e a.0 b.0 t q) (right_stays s d e a.1 b.1 t q))
+      step area shaped v r s free d e (left_pointed r d e a.0 b.0)
+      (λ t q. within_left p (left_stays r d e a.0 b.0 t q) (right_stays s d e a.1 b.1 t q))
 
   left_half : bend_of r s <ℤ pos 0 → (d e : Direction) → pos 0 <ℤ bend_of r d → pos 0 <ℤ bend_of r e → HaveOneGerm area v d e
   left_half n d e a b = step area shaped v r s free d e (left_pointed r d e a b) (λ t q. within_right n (inl (left_stays r d e a b t q)))
@@ -299,18 +322,22 @@ module _ (area : Area) (shaped : IsAreaShaped area) (v : Point) (r s : Direction
       go (inl a) = left_half n d (middle r s n) a (middle_left r s n)
       go (inr a) = right_half n d (middle r s n) a (middle_right r s n)
 
-  half_turn : bend_of r s ≡ pos 0 → ¬ PointSameWay r s → (d e : Direction) → IsStrictlyWithin r s d → IsStrictlyWithin r s e → HaveOneGerm area v d e
+  half_turn : bend_of r s ≡ pos 0 → ¬ PointSameWay r s → (d e : Direction) → IsStrictlyWithin r s d → IsStrictlyWithin r s e
+      → HaveOneGerm area v d e
   half_turn z n d e in_d in_e =
       let a = in_d.opposite z n in
       let b = in_e.opposite z n in
       step area shaped v r s free d e (left_pointed r d e a b) (λ t q. within_opposite z n (left_stays r d e a b t q))
 
   to_back : PointSameWay r s → (d : Direction) → IsStrictlyWithin r s d → HaveOneGerm area v d (back r)
-  to_back same d in_d = step area shaped v r s free d (back r) (back_pointed r d (in_d.same same)) (λ t q. within_whole same (back_stays r d (in_d.same same) t q))
+  to_back same d in_d = step area shaped v r s free d (back r) (back_pointed r d (in_d.same same))
+      (λ t q. within_whole same (back_stays r d (in_d.same same) t q))
 
-  pub same_in_sector : (d e : Direction) → IsStrictlyWithin r s d → IsStrictlyWithin r s e → (g h : Loc) → IsGerm area v d g → IsGerm area v e h → g ≡ h
+  pub same_in_sector : (d e : Direction) → IsStrictlyWithin r s d → IsStrictlyWithin r s e → (g h : Loc) → IsGerm area v d g
+      → IsGerm area v e h → g ≡ h
   same_in_sector d e in_d in_e =
-      by_sign (bend_of r s) (λ n. by_way_of (middle r s n) d e (to_middle n d in_d) (to_middle n e in_e)) (λ z. level z (same_or_opposite r s z)) (λ p. narrow_sector p d e in_d in_e)
+      by_sign (bend_of r s) (λ n. by_way_of (middle r s n) d e (to_middle n d in_d) (to_middle n e in_e))
+      (λ z. level z (same_or_opposite r s z)) (λ p. narrow_sector p d e in_d in_e)
     where
       level : bend_of r s ≡ pos 0 → PointSameWay r s ⊎ (¬ PointSameWay r s) → HaveOneGerm area v d e
       level z (inl same) = by_way_of (back r) d e (to_back same d in_d) (to_back same e in_e)
@@ -325,22 +352,27 @@ bare_clear v d e (f ∷ edges) off =
 
 bent_pointed : (d e : Direction) → ¬ (bend_of d e ≡ pos 0) → ArePointed d e
 unfolding bend_of
-bent_pointed d e n q = <ℤ_apart q.some (sym (both (none_first d.x d.y e.x e.y q.i q.j n q.across q.above) (none_second d.x d.y e.x e.y q.i q.j n q.across q.above)))
+bent_pointed d e n q = <ℤ_apart q.some
+    (sym (both (none_first d.x d.y e.x e.y q.i q.j n q.across q.above) (none_second d.x d.y e.x e.y q.i q.j n q.across q.above)))
   where
     both : q.i ≡ pos 0 → q.j ≡ pos 0 → q.i +ℤ q.j ≡ pos 0
     both h k = omega (arith, linear, h, k)
 
-    none_first : (dx dy ex ey i j : ℤ) → ¬ ((dx *ℤ ey) -ℤ (dy *ℤ ex) ≡ pos 0) → pos 0 ≡ (i *ℤ dx) +ℤ (j *ℤ ex) → pos 0 ≡ (i *ℤ dy) +ℤ (j *ℤ ey) → i ≡ pos 0
+    none_first : (dx dy ex ey i j : ℤ) → ¬ ((dx *ℤ ey) -ℤ (dy *ℤ ex) ≡ pos 0) → pos 0 ≡ (i *ℤ dx) +ℤ (j *ℤ ex)
+        → pos 0 ≡ (i *ℤ dy) +ℤ (j *ℤ ey) → i ≡ pos 0
     none_first dx dy ex ey i j m a b =
         zero_factor ((dx *ℤ ey) -ℤ (dy *ℤ ex)) i m
         (same_from ((var 0 ⊗ var 3 ⊖ var 1 ⊗ var 2) ⊗ var 4) (num (pos 0)) (dx ∷ dy ∷ ex ∷ ey ∷ i ∷ j ∷ [])
-        (scaled (minus (var 3)) (same (num (pos 0)) (var 4 ⊗ var 0 ⊕ var 5 ⊗ var 2) a) ⊞ scaled (var 2) (same (num (pos 0)) (var 4 ⊗ var 1 ⊕ var 5 ⊗ var 3) b)) refl)
+        (scaled (minus (var 3)) (same (num (pos 0)) (var 4 ⊗ var 0 ⊕ var 5 ⊗ var 2) a)
+        ⊞ scaled (var 2) (same (num (pos 0)) (var 4 ⊗ var 1 ⊕ var 5 ⊗ var 3) b)) refl)
 
-    none_second : (dx dy ex ey i j : ℤ) → ¬ ((dx *ℤ ey) -ℤ (dy *ℤ ex) ≡ pos 0) → pos 0 ≡ (i *ℤ dx) +ℤ (j *ℤ ex) → pos 0 ≡ (i *ℤ dy) +ℤ (j *ℤ ey) → j ≡ pos 0
+    none_second : (dx dy ex ey i j : ℤ) → ¬ ((dx *ℤ ey) -ℤ (dy *ℤ ex) ≡ pos 0) → pos 0 ≡ (i *ℤ dx) +ℤ (j *ℤ ex)
+        → pos 0 ≡ (i *ℤ dy) +ℤ (j *ℤ ey) → j ≡ pos 0
     none_second dx dy ex ey i j m a b =
         zero_factor ((dx *ℤ ey) -ℤ (dy *ℤ ex)) j m
         (same_from ((var 0 ⊗ var 3 ⊖ var 1 ⊗ var 2) ⊗ var 5) (num (pos 0)) (dx ∷ dy ∷ ex ∷ ey ∷ i ∷ j ∷ [])
-        (scaled (var 1) (same (num (pos 0)) (var 4 ⊗ var 0 ⊕ var 5 ⊗ var 2) a) ⊞ scaled (minus (var 0)) (same (num (pos 0)) (var 4 ⊗ var 1 ⊕ var 5 ⊗ var 3) b)) refl)
+        (scaled (var 1) (same (num (pos 0)) (var 4 ⊗ var 0 ⊕ var 5 ⊗ var 2) a)
+        ⊞ scaled (minus (var 0)) (same (num (pos 0)) (var 4 ⊗ var 1 ⊕ var 5 ⊗ var 3) b)) refl)
 
 -- d turned left by a quarter
 quarter : Direction → Direction
@@ -353,21 +385,25 @@ quarter_bends d z = go d.x d.y (moving d) z
     go : (x y : ℤ) → pos 0 <ℤ ((x *ℤ x) +ℤ (y *ℤ y)) → (x *ℤ x) -ℤ (y *ℤ neg_ℤ y) ≡ pos 0 → ⊥
     go x y h e =
         impossible_by (x ∷ y ∷ [])
-        (positive (var 0 ⊗ var 0 ⊕ var 1 ⊗ var 1) h ⊞ scaled (minus (num (pos 1))) (same (var 0 ⊗ var 0 ⊖ var 1 ⊗ minus (var 1)) (num (pos 0)) e)) refl
+        (positive (var 0 ⊗ var 0 ⊕ var 1 ⊗ var 1) h ⊞ scaled (minus (num (pos 1)))
+        (same (var 0 ⊗ var 0 ⊖ var 1 ⊗ minus (var 1)) (num (pos 0)) e)) refl
 
 -- what is on one line with d is off the line of the quarter
 quarter_apart : (d e : Direction) → bend_of d e ≡ pos 0 → ¬ (bend_of (quarter d) e ≡ pos 0)
 unfolding bend_of quarter
 quarter_apart d e z k = go d.x d.y e.x e.y (moving d) (moving e) z k
   where
-    go : (x y u w : ℤ) → pos 0 <ℤ ((x *ℤ x) +ℤ (y *ℤ y)) → pos 0 <ℤ ((u *ℤ u) +ℤ (w *ℤ w)) → (x *ℤ w) -ℤ (y *ℤ u) ≡ pos 0 → (neg_ℤ y *ℤ w) -ℤ (x *ℤ u) ≡ pos 0 → ⊥
+    go : (x y u w : ℤ) → pos 0 <ℤ ((x *ℤ x) +ℤ (y *ℤ y)) → pos 0 <ℤ ((u *ℤ u) +ℤ (w *ℤ w)) → (x *ℤ w) -ℤ (y *ℤ u) ≡ pos 0
+        → (neg_ℤ y *ℤ w) -ℤ (x *ℤ u) ≡ pos 0 → ⊥
     go x y u w h k e f =
         impossible_by (x ∷ y ∷ u ∷ w ∷ [])
         (positive (var 0 ⊗ var 0 ⊕ var 1 ⊗ var 1) h ⊠ positive (var 2 ⊗ var 2 ⊕ var 3 ⊗ var 3) k
         ⊞ scaled (minus (var 0 ⊗ var 3 ⊖ var 1 ⊗ var 2)) (same (var 0 ⊗ var 3 ⊖ var 1 ⊗ var 2) (num (pos 0)) e)
         ⊞ scaled (minus (minus (var 1) ⊗ var 3 ⊖ var 0 ⊗ var 2)) (same (minus (var 1) ⊗ var 3 ⊖ var 0 ⊗ var 2) (num (pos 0)) f)) refl
 
-pub same_where_clear : (area : Area) → IsAreaShaped area → (v : Point) → ((d e : Direction) → ArePointed d e → AreClear v d e (edges_of_rings (rings_of area))) → (d e : Direction) (g h : Loc) → IsGerm area v d g → IsGerm area v e h → g ≡ h
+pub same_where_clear : (area : Area) → IsAreaShaped area → (v : Point)
+    → ((d e : Direction) → ArePointed d e → AreClear v d e (edges_of_rings (rings_of area))) → (d e : Direction) (g h : Loc)
+    → IsGerm area v d g → IsGerm area v e h → g ≡ h
 same_where_clear area shaped v clear d e = by_sign (bend_of d e) (λ n. bent d e (<ℤ_apart n)) level (λ p. bent d e (pos_nonzero p))
   where
     bent : (d e : Direction) → ¬ (bend_of d e ≡ pos 0) → HaveOneGerm area v d e
@@ -378,5 +414,6 @@ same_where_clear area shaped v clear d e = by_sign (bend_of d e) (λ n. bent d e
         let k = germ_exists area shaped v (quarter d) in
         bent d (quarter d) (quarter_bends d) g k.germ is_g k.is ∙ bent (quarter d) e (quarter_apart d e z) k.germ h k.is is_h
 
-pub same_off_edges : (area : Area) → IsAreaShaped area → (v : Point) → is_on_edges v (edges_of_rings (rings_of area)) ≡ false → (d e : Direction) (g h : Loc) → IsGerm area v d g → IsGerm area v e h → g ≡ h
+pub same_off_edges : (area : Area) → IsAreaShaped area → (v : Point) → is_on_edges v (edges_of_rings (rings_of area)) ≡ false
+    → (d e : Direction) (g h : Loc) → IsGerm area v d g → IsGerm area v e h → g ≡ h
 same_off_edges area shaped v off = same_where_clear area shaped v (λ d e _. bare_clear v d e (edges_of_rings (rings_of area)) off)

@@ -46,10 +46,12 @@ down_from (negsuc k) (pos zero) e = inr (refl, omega (arith, linear))
 down_from x (negsuc n) e = inl (omega (arith, linear))
 
 -- a and b point up, b is to the left of a, and c points down and isn't to the left of b: then a is to the left of c
-up_up_down : (ax ay bx by cx cy : ℤ) → IsUp ax ay → IsUp bx by → IsUp (neg_ℤ cx) (neg_ℤ cy) → pos 0 <ℤ ((ax *ℤ by) -ℤ (ay *ℤ bx)) → ((bx *ℤ cy) -ℤ (by *ℤ cx)) ≤ℤ pos 0 → pos 0 <ℤ ((cx *ℤ ay) -ℤ (cy *ℤ ax))
+up_up_down : (ax ay bx by cx cy : ℤ) → IsUp ax ay → IsUp bx by → IsUp (neg_ℤ cx) (neg_ℤ cy) → pos 0 <ℤ ((ax *ℤ by) -ℤ (ay *ℤ bx))
+    → ((bx *ℤ cy) -ℤ (by *ℤ cx)) ≤ℤ pos 0 → pos 0 <ℤ ((cx *ℤ ay) -ℤ (cy *ℤ ax))
 up_up_down ax ay bx by cx cy a (inl b) (inr c) h k =
     impossible_by (ax ∷ ay ∷ bx ∷ by ∷ cx ∷ cy ∷ [])
-    (at_most (var 2 ⊗ var 5 ⊖ var 3 ⊗ var 4) (num (pos 0)) k ⊞ positive (var 3) b ⊠ positive (minus (var 4)) c.1 ⊞ scaled (minus (var 2)) (vanishing (minus (var 5)) c.0)) refl
+    (at_most (var 2 ⊗ var 5 ⊖ var 3 ⊗ var 4) (num (pos 0)) k ⊞ positive (var 3) b ⊠ positive (minus (var 4)) c.1
+    ⊞ scaled (minus (var 2)) (vanishing (minus (var 5)) c.0)) refl
 up_up_down ax ay bx by cx cy (inl a) (inl b) (inl c) h k =
     less_by (num (pos 0)) (var 4 ⊗ var 1 ⊖ var 5 ⊗ var 0) (ax ∷ ay ∷ bx ∷ by ∷ cx ∷ cy ∷ [])
     (λ denied. denied ⊠ positive (var 3) b ⊞ positive (minus (var 5)) c ⊠ positive (var 0 ⊗ var 3 ⊖ var 1 ⊗ var 2) h
@@ -59,13 +61,16 @@ up_up_down ax ay bx by cx cy (inr a) (inl b) (inl c) h k =
     (λ denied. denied ⊞ positive (var 0) a.1 ⊠ positive (minus (var 5)) c ⊞ scaled (var 4) (vanishing (var 1) a.0)) refl
 up_up_down ax ay bx by cx cy (inl a) (inr b) c h k =
     impossible_by (ax ∷ ay ∷ bx ∷ by ∷ cx ∷ cy ∷ [])
-    (positive (var 0 ⊗ var 3 ⊖ var 1 ⊗ var 2) h ⊞ positive (var 1) a ⊠ positive (var 2) b.1 ⊞ scaled (minus (var 0)) (vanishing (var 3) b.0)) refl
+    (positive (var 0 ⊗ var 3 ⊖ var 1 ⊗ var 2) h ⊞ positive (var 1) a ⊠ positive (var 2) b.1
+    ⊞ scaled (minus (var 0)) (vanishing (var 3) b.0)) refl
 up_up_down ax ay bx by cx cy (inr a) (inr b) c h k =
     impossible_by (ax ∷ ay ∷ bx ∷ by ∷ cx ∷ cy ∷ [])
-    (positive (var 0 ⊗ var 3 ⊖ var 1 ⊗ var 2) h ⊞ scaled (minus (var 0)) (vanishing (var 3) b.0) ⊞ scaled (var 2) (vanishing (var 1) a.0)) refl
+    (positive (var 0 ⊗ var 3 ⊖ var 1 ⊗ var 2) h ⊞ scaled (minus (var 0)) (vanishing (var 3) b.0) ⊞ scaled (var 2) (vanishing (var 1) a.0))
+    refl
 
 -- a points up, and b and c down, b isn't to the left of a, and c is to the left of b: then a is to the left of c
-up_down_down : (ax ay bx by cx cy : ℤ) → IsUp ax ay → IsUp (neg_ℤ bx) (neg_ℤ by) → IsUp (neg_ℤ cx) (neg_ℤ cy) → ((ax *ℤ by) -ℤ (ay *ℤ bx)) ≤ℤ pos 0 → pos 0 <ℤ ((bx *ℤ cy) -ℤ (by *ℤ cx)) → pos 0 <ℤ ((cx *ℤ ay) -ℤ (cy *ℤ ax))
+up_down_down : (ax ay bx by cx cy : ℤ) → IsUp ax ay → IsUp (neg_ℤ bx) (neg_ℤ by) → IsUp (neg_ℤ cx) (neg_ℤ cy)
+    → ((ax *ℤ by) -ℤ (ay *ℤ bx)) ≤ℤ pos 0 → pos 0 <ℤ ((bx *ℤ cy) -ℤ (by *ℤ cx)) → pos 0 <ℤ ((cx *ℤ ay) -ℤ (cy *ℤ ax))
 up_down_down ax ay bx by cx cy (inr a) b (inl c) h k =
     less_by (num (pos 0)) (var 4 ⊗ var 1 ⊖ var 5 ⊗ var 0) (ax ∷ ay ∷ bx ∷ by ∷ cx ∷ cy ∷ [])
     (λ denied. denied ⊞ positive (var 0) a.1 ⊠ positive (minus (var 5)) c ⊞ scaled (var 4) (vanishing (var 1) a.0)) refl
@@ -75,13 +80,16 @@ up_down_down ax ay bx by cx cy (inl a) (inl b) (inl c) h k =
     ⊞ positive (minus (var 5)) c ⊠ at_most (var 0 ⊗ var 3 ⊖ var 1 ⊗ var 2) (num (pos 0)) h) refl
 up_down_down ax ay bx by cx cy (inl a) (inr b) (inl c) h k =
     impossible_by (ax ∷ ay ∷ bx ∷ by ∷ cx ∷ cy ∷ [])
-    (at_most (var 0 ⊗ var 3 ⊖ var 1 ⊗ var 2) (num (pos 0)) h ⊞ positive (var 1) a ⊠ positive (minus (var 2)) b.1 ⊞ scaled (minus (var 0)) (vanishing (minus (var 3)) b.0)) refl
+    (at_most (var 0 ⊗ var 3 ⊖ var 1 ⊗ var 2) (num (pos 0)) h ⊞ positive (var 1) a ⊠ positive (minus (var 2)) b.1
+    ⊞ scaled (minus (var 0)) (vanishing (minus (var 3)) b.0)) refl
 up_down_down ax ay bx by cx cy a (inl b) (inr c) h k =
     impossible_by (ax ∷ ay ∷ bx ∷ by ∷ cx ∷ cy ∷ [])
-    (positive (var 2 ⊗ var 5 ⊖ var 3 ⊗ var 4) k ⊞ positive (minus (var 3)) b ⊠ positive (minus (var 4)) c.1 ⊞ scaled (var 2) (vanishing (minus (var 5)) c.0)) refl
+    (positive (var 2 ⊗ var 5 ⊖ var 3 ⊗ var 4) k ⊞ positive (minus (var 3)) b ⊠ positive (minus (var 4)) c.1
+    ⊞ scaled (var 2) (vanishing (minus (var 5)) c.0)) refl
 up_down_down ax ay bx by cx cy a (inr b) (inr c) h k =
     impossible_by (ax ∷ ay ∷ bx ∷ by ∷ cx ∷ cy ∷ [])
-    (positive (var 2 ⊗ var 5 ⊖ var 3 ⊗ var 4) k ⊞ scaled (var 2) (vanishing (minus (var 5)) c.0) ⊞ scaled (minus (var 4)) (vanishing (minus (var 3)) b.0)) refl
+    (positive (var 2 ⊗ var 5 ⊖ var 3 ⊗ var 4) k ⊞ scaled (var 2) (vanishing (minus (var 5)) c.0)
+    ⊞ scaled (minus (var 4)) (vanishing (minus (var 3)) b.0)) refl
 
 -- ---- three directions in their order around
 -- counter-clockwise b comes after a, c after b and a after c, in one turn: at least two of them are to the left of the one before
@@ -105,13 +113,15 @@ ahead_from : (d e : Dir) → compare_angles d e ≡ Less → IsAhead d e
 unfolding bend_of
 ahead_from d e h = go (past_half d.dx d.dy) (past_half e.dx e.dy) h
   where
-    go : (p q : Bool) → ordering_then (bool_cmp p q) (int_cmp (pos 0) (bend d e)) ≡ Less → ((p ≡ false) × (q ≡ true)) ⊎ ((p ≡ q) × (pos 0 <ℤ bend d e))
+    go : (p q : Bool) → ordering_then (bool_cmp p q) (int_cmp (pos 0) (bend d e)) ≡ Less → ((p ≡ false) × (q ≡ true))
+        ⊎ ((p ≡ q) × (pos 0 <ℤ bend d e))
     go false true k = inl (refl, refl)
     go false false k = inr (refl, less_int_cmp (pos 0) (bend d e) k)
     go true true k = inr (refl, less_int_cmp (pos 0) (bend d e) k)
     go true false k = cc
 
-in_turn : (a b c : Dir) → compare_angles a b ≡ Less → compare_angles b c ≡ Less → AreInTurn (direction_of a) (direction_of b) (direction_of c)
+in_turn : (a b c : Dir) → compare_angles a b ≡ Less → compare_angles b c ≡ Less
+    → AreInTurn (direction_of a) (direction_of b) (direction_of c)
 unfolding bend_of
 in_turn a b c h k = go (ahead_from a b h) (ahead_from b c k)
   where
@@ -122,16 +132,19 @@ in_turn a b c h k = go (ahead_from a b h) (ahead_from b c k)
     go (inl p) (inl q) = absurd (true≢false (sym p.1 ∙ q.0))
     go (inl p) (inr q) =
         by_lt_z (pos 0) (bend_of (direction_of a) (direction_of b)) (λ l. around_b l q.1)
-        (λ n. around_c q.1 (up_down_down a.dx a.dy b.dx b.dy c.dx c.dy (up_first a p.0) (down_from b.dx b.dy p.1) (down_from c.dx c.dy (sym q.0 ∙ p.1)) n q.1))
+        (λ n. around_c q.1 (up_down_down a.dx a.dy b.dx b.dy c.dx c.dy (up_first a p.0) (down_from b.dx b.dy p.1)
+        (down_from c.dx c.dy (sym q.0 ∙ p.1)) n q.1))
     go (inr p) (inl q) =
         by_lt_z (pos 0) (bend_of (direction_of b) (direction_of c)) (λ l. around_b p.1 l)
-        (λ n. around_a (up_up_down a.dx a.dy b.dx b.dy c.dx c.dy (up_first a (p.0 ∙ q.0)) (up_first b q.0) (down_from c.dx c.dy q.1) p.1 n) p.1)
+        (λ n. around_a (up_up_down a.dx a.dy b.dx b.dy c.dx c.dy (up_first a (p.0 ∙ q.0)) (up_first b q.0)
+        (down_from c.dx c.dy q.1) p.1 n) p.1)
     go (inr p) (inr q) = around_b p.1 q.1
 
 -- ---- directions that point the same way
 opposed : (u w : Direction) → pos 0 <ℤ bend_of u w → pos 0 <ℤ bend_of w u → ⊥
 unfolding bend_of
-opposed u w h k = impossible_by (u.x ∷ u.y ∷ w.x ∷ w.y ∷ []) (positive (var 0 ⊗ var 3 ⊖ var 1 ⊗ var 2) h ⊞ positive (var 2 ⊗ var 1 ⊖ var 3 ⊗ var 0) k) refl
+opposed u w h k = impossible_by (u.x ∷ u.y ∷ w.x ∷ w.y ∷ [])
+    (positive (var 0 ⊗ var 3 ⊖ var 1 ⊗ var 2) h ⊞ positive (var 2 ⊗ var 1 ⊖ var 3 ⊗ var 0) k) refl
 
 pub turned_way : {u w : Direction} → PointSameWay u w → PointSameWay w u
 turned_way h = record { m = h.n; n = h.m; some = h.other; other = h.some; across = sym h.across; above = sym h.above }
@@ -141,7 +154,8 @@ left_of_way : {u w : Direction} (s : Direction) → PointSameWay u w → pos 0 <
 unfolding bend_of
 left_of_way {u} {w} s q h = go u.x u.y w.x w.y s.x s.y q.m q.n q.some q.other q.across q.above h
   where
-    go : (ux uy wx wy sx sy m n : ℤ) → pos 0 <ℤ m → pos 0 <ℤ n → m *ℤ ux ≡ n *ℤ wx → m *ℤ uy ≡ n *ℤ wy → pos 0 <ℤ ((wx *ℤ sy) -ℤ (wy *ℤ sx)) → pos 0 <ℤ ((ux *ℤ sy) -ℤ (uy *ℤ sx))
+    go : (ux uy wx wy sx sy m n : ℤ) → pos 0 <ℤ m → pos 0 <ℤ n → m *ℤ ux ≡ n *ℤ wx → m *ℤ uy ≡ n *ℤ wy
+        → pos 0 <ℤ ((wx *ℤ sy) -ℤ (wy *ℤ sx)) → pos 0 <ℤ ((ux *ℤ sy) -ℤ (uy *ℤ sx))
     go ux uy wx wy sx sy m n hm hn across above h =
         less_by (num (pos 0)) (var 0 ⊗ var 5 ⊖ var 1 ⊗ var 4) (ux ∷ uy ∷ wx ∷ wy ∷ sx ∷ sy ∷ m ∷ n ∷ [])
         (λ denied. denied ⊠ positive (var 6) hm ⊞ positive (var 7) hn ⊠ positive (var 2 ⊗ var 5 ⊖ var 3 ⊗ var 4) h
@@ -152,7 +166,8 @@ way_to_left : {u w : Direction} (s : Direction) → PointSameWay u w → pos 0 <
 unfolding bend_of
 way_to_left {u} {w} s q h = go u.x u.y w.x w.y s.x s.y q.m q.n q.some q.other q.across q.above h
   where
-    go : (ux uy wx wy sx sy m n : ℤ) → pos 0 <ℤ m → pos 0 <ℤ n → m *ℤ ux ≡ n *ℤ wx → m *ℤ uy ≡ n *ℤ wy → pos 0 <ℤ ((sx *ℤ wy) -ℤ (sy *ℤ wx)) → pos 0 <ℤ ((sx *ℤ uy) -ℤ (sy *ℤ ux))
+    go : (ux uy wx wy sx sy m n : ℤ) → pos 0 <ℤ m → pos 0 <ℤ n → m *ℤ ux ≡ n *ℤ wx → m *ℤ uy ≡ n *ℤ wy
+        → pos 0 <ℤ ((sx *ℤ wy) -ℤ (sy *ℤ wx)) → pos 0 <ℤ ((sx *ℤ uy) -ℤ (sy *ℤ ux))
     go ux uy wx wy sx sy m n hm hn across above h =
         less_by (num (pos 0)) (var 4 ⊗ var 1 ⊖ var 5 ⊗ var 0) (ux ∷ uy ∷ wx ∷ wy ∷ sx ∷ sy ∷ m ∷ n ∷ [])
         (λ denied. denied ⊠ positive (var 6) hm ⊞ positive (var 7) hn ⊠ positive (var 4 ⊗ var 3 ⊖ var 5 ⊗ var 2) h
@@ -168,14 +183,16 @@ in_turn_way {r} {s} {t} {u} q (around_c h k) = around_c (way_to_left s q h) (lef
 in_turn_outside : (r s t : Direction) → AreInTurn r s t → ¬ IsStrictlyWithin r s t
 in_turn_outside r s t (around_a h k) w = opposed t r h (w.left k).0
 in_turn_outside r s t (around_b h k) w = opposed s t k (w.left h).1
-in_turn_outside r s t (around_c h k) w = by_sign (bend_of r s) (λ n. right (w.right n)) (λ z. opposed t r k (w.opposite z (λ q. opposed t r k (left_of_way t q h)))) (λ p. opposed s t h (w.left p).1)
+in_turn_outside r s t (around_c h k) w = by_sign (bend_of r s) (λ n. right (w.right n))
+    (λ z. opposed t r k (w.opposite z (λ q. opposed t r k (left_of_way t q h)))) (λ p. opposed s t h (w.left p).1)
   where
     right : (pos 0 <ℤ bend_of r t) ⊎ (pos 0 <ℤ bend_of t s) → ⊥
     right (inl a) = opposed t r k a
     right (inr a) = opposed s t h a
 
 first_outside : (r s t : Direction) → PointSameWay t r → ¬ IsStrictlyWithin r s t
-first_outside r s t q w = by_sign (bend_of r s) (λ n. right n (w.right n)) (λ z. not_left (w.opposite z (λ whole. w.same whole (turned_way q)))) (λ p. not_left (w.left p).0)
+first_outside r s t q w = by_sign (bend_of r s) (λ n. right n (w.right n))
+    (λ z. not_left (w.opposite z (λ whole. w.same whole (turned_way q)))) (λ p. not_left (w.left p).0)
   where
     not_left : pos 0 <ℤ bend_of r t → ⊥
     not_left a = opposed t t (left_of_way t q a) (left_of_way t q a)
@@ -186,7 +203,9 @@ first_outside r s t q w = by_sign (bend_of r s) (λ n. right n (w.right n)) (λ 
 
 second_outside : (r s t : Direction) → PointSameWay t s → ¬ IsStrictlyWithin r s t
 second_outside r s t q w =
-    by_sign (bend_of r s) (λ n. right n (w.right n)) (λ z. <ℤ_apart (way_to_left r (turned_way q) (w.opposite z (λ whole. w.same whole (joined_ways whole (turned_way q))))) (sym z)) (λ p. not_left (w.left p).1)
+    by_sign (bend_of r s) (λ n. right n (w.right n))
+    (λ z. <ℤ_apart (way_to_left r (turned_way q) (w.opposite z (λ whole. w.same whole (joined_ways whole (turned_way q))))) (sym z))
+    (λ p. not_left (w.left p).1)
   where
     not_left : pos 0 <ℤ bend_of t s → ⊥
     not_left a = opposed t t (way_to_left t q a) (way_to_left t q a)
@@ -197,7 +216,8 @@ second_outside r s t q w =
 
 -- ---- in a list of rays
 pub one_at : {X : Type 0} (items : List X) (i j : ℕ) (x y : X) → i ≡ j → IsAtPlace items i x → IsAtPlace items j y → x ≡ y
-one_at items i j x y e x_is y_is = sym (get_or_from_slice_get items i x x x_is) ∙ ap (λ (k : ℕ). get_or items k x) e ∙ get_or_from_slice_get items j y x y_is
+one_at items i j x y e x_is y_is = sym (get_or_from_slice_get items i x x x_is) ∙ ap (λ (k : ℕ). get_or items k x) e
+    ∙ get_or_from_slice_get items j y x y_is
 
 module _ (rays : List Dir) (ascending : AllPairs (λ d e. compare_angles d e ≡ Less) rays) where
   in_order : (i j : ℕ) (d e : Dir) → i < j → IsAtPlace rays i d → IsAtPlace rays j e → compare_angles d e ≡ Less
@@ -207,15 +227,18 @@ module _ (rays : List Dir) (ascending : AllPairs (λ d e. compare_angles d e ≡
       (λ z. compare_angles (first z) (second z)) ∙ ascending i j d h (slice_get_within rays j e e_is)
 
   -- t points the way of the ray u at place k: it isn't strictly within the sector of the ray r at place i and the next one, s
-  module _ (i k : ℕ) (r s u : Dir) (r_is : IsAtPlace rays i r) (u_is : IsAtPlace rays k u) (t : Direction) (q : PointSameWay t (direction_of u)) where
+  module _ (i k : ℕ) (r s u : Dir) (r_is : IsAtPlace rays i r) (u_is : IsAtPlace rays k u) (t : Direction)
+      (q : PointSameWay t (direction_of u)) where
     abbrev IsOutside : Type 0
     IsOutside = ¬ IsStrictlyWithin (direction_of r) (direction_of s) t
 
     at_first : k ≡ i → IsOutside
-    at_first e = first_outside (direction_of r) (direction_of s) t (subst (λ (z : Dir). PointSameWay t (direction_of z)) (one_at rays k i u r e u_is r_is) q)
+    at_first e = first_outside (direction_of r) (direction_of s) t
+        (subst (λ (z : Dir). PointSameWay t (direction_of z)) (one_at rays k i u r e u_is r_is) q)
 
     at_second : (j : ℕ) → IsAtPlace rays j s → k ≡ j → IsOutside
-    at_second j s_is e = second_outside (direction_of r) (direction_of s) t (subst (λ (z : Dir). PointSameWay t (direction_of z)) (one_at rays k j u s e u_is s_is) q)
+    at_second j s_is e = second_outside (direction_of r) (direction_of s) t
+        (subst (λ (z : Dir). PointSameWay t (direction_of z)) (one_at rays k j u s e u_is s_is) q)
 
     elsewhere : AreInTurn (direction_of r) (direction_of s) (direction_of u) → IsOutside
     elsewhere h = in_turn_outside (direction_of r) (direction_of s) t (in_turn_way q h)
@@ -226,11 +249,13 @@ module _ (rays : List Dir) (ascending : AllPairs (λ d e. compare_angles d e ≡
         after : i < k → (k ≡ i + 1) ⊎ ((k < (i + 1)) ⊎ ((i + 1) < k)) → IsOutside
         after h (inl e) = at_second (i + 1) s_is e
         after h (inr (inl l)) = absurd (omega (arith, h, l))
-        after h (inr (inr l)) = elsewhere (in_turn r s u (in_order i (i + 1) r s (omega arith) r_is s_is) (in_order (i + 1) k s u l s_is u_is))
+        after h (inr (inr l)) = elsewhere
+            (in_turn r s u (in_order i (i + 1) r s (omega arith) r_is s_is) (in_order (i + 1) k s u l s_is u_is))
 
         before : (k ≡ i) ⊎ ((k < i) ⊎ (i < k)) → IsOutside
         before (inl e) = at_first e
-        before (inr (inl l)) = elsewhere (turn_on (in_turn u r s (in_order k i u r l u_is r_is) (in_order i (i + 1) r s (omega arith) r_is s_is)))
+        before (inr (inl l)) = elsewhere
+            (turn_on (in_turn u r s (in_order k i u r l u_is r_is) (in_order i (i + 1) r s (omega arith) r_is s_is)))
         before (inr (inr l)) = after l (cases_order k (i + 1))
 
     off_last_sector : length rays ≤ (i + 1) → IsAtPlace rays 0 s → IsOutside
@@ -238,7 +263,8 @@ module _ (rays : List Dir) (ascending : AllPairs (λ d e. compare_angles d e ≡
       where
         from_zero : k < i → (k ≡ 0) ⊎ (k ≡ 0 → ⊥) → IsOutside
         from_zero l (inl e) = at_second 0 s_is e
-        from_zero l (inr n) = elsewhere (turn_on (turn_on (in_turn s u r (in_order 0 k s u (omega (arith, n)) s_is u_is) (in_order k i u r l u_is r_is))))
+        from_zero l (inr n) = elsewhere
+            (turn_on (turn_on (in_turn s u r (in_order 0 k s u (omega (arith, n)) s_is u_is) (in_order k i u r l u_is r_is))))
 
         before : (k ≡ i) ⊎ ((k < i) ⊎ (i < k)) → IsOutside
         before (inl e) = at_first e
@@ -256,13 +282,18 @@ module _ (rays : List Dir) (ascending : AllPairs (λ d e. compare_angles d e ≡
             off_last_sector l (subst (λ (j : ℕ). IsAtPlace rays j s) (ap (λ (n : ℕ). n % length rays) e ∙ mod_self (length rays)) s_is)
 
 -- ---- the germ
-pub none_within : (area : Area) (v : Point) (rays : List Dir) → AreRaysAt v (edges_of_rings (rings_of area)) rays → (i : ℕ) (r s : Dir) → IsAtPlace rays i r → IsAtPlace rays ((i + 1) % length rays) s → HasNoEdgeWithin area v (direction_of r) (direction_of s)
-none_within area v rays are i r s r_is s_is place f is on t within = (λ c. on_ray (are.whole place f is on t (inl c)), λ c. on_ray (are.whole place f is on t (inr c)))
+pub none_within : (area : Area) (v : Point) (rays : List Dir) → AreRaysAt v (edges_of_rings (rings_of area)) rays → (i : ℕ) (r s : Dir)
+    → IsAtPlace rays i r → IsAtPlace rays ((i + 1) % length rays) s → HasNoEdgeWithin area v (direction_of r) (direction_of s)
+none_within area v rays are i r s r_is s_is place f is on t within =
+    (λ c. on_ray (are.whole place f is on t (inl c)), λ c. on_ray (are.whole place f is on t (inr c)))
   where
     on_ray : Any (λ ray. PointSameWay t (direction_of ray)) rays → ⊥
-    on_ray a = off_sector rays are.ascending i a.0 r s a.1 r_is (slice_get_read rays (length rays) a.0 a.1 refl a.2 (sym a.3)) t a.4 s_is within
+    on_ray a = off_sector rays are.ascending i a.0 r s a.1 r_is (slice_get_read rays (length rays) a.0 a.1 refl a.2 (sym a.3)) t a.4 s_is
+        within
 
-pub same_between_rays : (area : Area) → IsAreaShaped area → (v : Point) (rays : List Dir) → AreRaysAt v (edges_of_rings (rings_of area)) rays → (i : ℕ) (d e : Direction) → IsInSector rays i d → IsInSector rays i e → (g h : Loc) → IsGerm area v d g → IsGerm area v e h → g ≡ h
+pub same_between_rays : (area : Area) → IsAreaShaped area → (v : Point) (rays : List Dir)
+    → AreRaysAt v (edges_of_rings (rings_of area)) rays → (i : ℕ) (d e : Direction) → IsInSector rays i d → IsInSector rays i e
+    → (g h : Loc) → IsGerm area v d g → IsGerm area v e h → g ≡ h
 same_between_rays area shaped v [] are i d e in_d in_e = same_where_clear area shaped v clear d e
   where
     no_ray : {t : Direction} → Any (λ ray. PointSameWay t (direction_of ray)) [] → ⊥
@@ -275,7 +306,8 @@ same_between_rays area shaped v [] are i d e in_d in_e = same_where_clear area s
           λ c. no_ray (are.whole place f is on (toward n c) (inr (toward_is n c))),
         ))
 same_between_rays area shaped v (ray ∷ rays) are i d e in_d in_e =
-    same_in_sector area shaped v (direction_of in_d.ray) (direction_of in_d.next) (none_within area v (ray ∷ rays) are i in_d.ray in_d.next in_d.ray_is in_d.next_is) d e in_d.holds here
+    same_in_sector area shaped v (direction_of in_d.ray) (direction_of in_d.next)
+    (none_within area v (ray ∷ rays) are i in_d.ray in_d.next in_d.ray_is in_d.next_is) d e in_d.holds here
   where
     place : ℕ
     place = (i + 1) % length (ray ∷ rays)

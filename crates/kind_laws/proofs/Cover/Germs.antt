@@ -24,7 +24,8 @@ pub record HasCover (areas : List Area) (v : Point) (d : Direction) : Type 0 whe
   pub germ_is : IsGerm area v d germ
   pub covers : is_not_exterior germ ≡ true
 
-pub cover_or_none : (areas : List Area) → All IsAreaShaped areas → (v : Point) (d : Direction) → HasCover areas v d ⊎ HoldsAlong (λ q. is_covered_by q areas ≡ false) v d
+pub cover_or_none : (areas : List Area) → All IsAreaShaped areas → (v : Point) (d : Direction) → HasCover areas v d
+    ⊎ HoldsAlong (λ q. is_covered_by q areas ≡ false) v d
 cover_or_none [] shaped v d = inr (record { from = 0; holds = λ n far q away. refl })
 cover_or_none (area ∷ areas) shaped v d =
     let g = germ_exists area (All-head IsAreaShaped area areas shaped) v d in
@@ -33,16 +34,21 @@ cover_or_none (area ∷ areas) shaped v d =
     later : HasCover areas v d → HasCover (area ∷ areas) v d
     later h = record { place = suc h.place; area = h.area; is = h.is; germ = h.germ; germ_is = h.germ_is; covers = h.covers }
 
-    by_germ : (g : Loc) → IsGerm area v d g → (b : Bool) → is_not_exterior g ≡ b → HasCover areas v d ⊎ HoldsAlong (λ q. is_covered_by q areas ≡ false) v d → HasCover (area ∷ areas) v d ⊎ HoldsAlong (λ q. is_covered_by q (area ∷ areas) ≡ false) v d
+    by_germ : (g : Loc) → IsGerm area v d g → (b : Bool) → is_not_exterior g ≡ b → HasCover areas v d
+        ⊎ HoldsAlong (λ q. is_covered_by q areas ≡ false) v d → HasCover (area ∷ areas) v d
+        ⊎ HoldsAlong (λ q. is_covered_by q (area ∷ areas) ≡ false) v d
     by_germ g is true h rest = inl (record { place = 0; area = area; is = refl; germ = g; germ_is = is; covers = h })
     by_germ g is false h (inl k) = inl (later k)
     by_germ g is false h (inr k) =
         inr (record {
           from = is.from + k.from;
-          holds = λ n far q away. (λ i. is_not_exterior (is.holds n (omega (arith, far)) q away i) || k.holds n (omega (arith, far)) q away i) ∙ ap (λ b. b || false) h;
+          holds = λ n far q away.
+              (λ i. is_not_exterior (is.holds n (omega (arith, far)) q away i) || k.holds n (omega (arith, far)) q away i)
+              ∙ ap (λ b. b || false) h;
         })
 
-pub cover_of : (areas : List Area) → All IsAreaShaped areas → (v : Point) (d : Direction) → HoldsAlong (λ q. is_covered_by q areas ≡ true) v d → HasCover areas v d
+pub cover_of : (areas : List Area) → All IsAreaShaped areas → (v : Point) (d : Direction)
+    → HoldsAlong (λ q. is_covered_by q areas ≡ true) v d → HasCover areas v d
 cover_of areas shaped v d h = go (cover_or_none areas shaped v d)
   where
     go : HasCover areas v d ⊎ HoldsAlong (λ q. is_covered_by q areas ≡ false) v d → HasCover areas v d
@@ -50,4 +56,5 @@ cover_of areas shaped v d h = go (cover_or_none areas shaped v d)
     go (inr k) =
         let n = h.from + k.from in
         let q = away_point v d n in
-        absurd (true≢false (sym (h.holds (suc n) (omega arith) q (away_point_is v d n)) ∙ k.holds (suc n) (omega arith) q (away_point_is v d n)))
+        absurd (true≢false (sym (h.holds (suc n) (omega arith) q (away_point_is v d n))
+        ∙ k.holds (suc n) (omega arith) q (away_point_is v d n)))

@@ -25,7 +25,8 @@ use Rattle.point_set.specs.Cover.{IsCoveredAround}
 -- ---- near a point the union covers all points of a direction or none
 pub record HasCoverRoom (areas : List Area) (v : Point) : Type 0 where
   pub n : ℕ
-  pub alike : (k : ℕ) → n ≤ k → (d : Direction) (p q : Point) → IsNear v k p → IsNear v k q → IsInCone v d d p → IsInCone v d d q → is_covered_by p areas ≡ is_covered_by q areas
+  pub alike : (k : ℕ) → n ≤ k → (d : Direction) (p q : Point) → IsNear v k p → IsNear v k q → IsInCone v d d p → IsInCone v d d q
+      → is_covered_by p areas ≡ is_covered_by q areas
 
 pub cover_room : (areas : List Area) → All IsAreaShaped areas → (v : Point) → HasCoverRoom areas v
 cover_room [] shaped v = record { n = 0; alike = λ k far d p q near_p near_q c c'. refl }
@@ -35,7 +36,9 @@ cover_room (area ∷ areas) shaped v =
     record {
       n = first.n + rest.n;
       alike = λ k far d p q near_p near_q c c'.
-          (λ i. is_not_exterior (location_alike area (All-head IsAreaShaped area areas shaped) v first k (omega arith) d p q near_p near_q c c' i) || rest.alike k (omega arith) d p q near_p near_q c c' i);
+          (λ i. is_not_exterior
+          (location_alike area (All-head IsAreaShaped area areas shaped) v first k (omega arith) d p q near_p near_q c c' i) ||
+          rest.alike k (omega arith) d p q near_p near_q c c' i);
     }
 
 -- ---- the direction of another point
@@ -87,5 +90,6 @@ interior_from_around f shaped v around =
         let held = around.along d in
         let n = held.from + far_for d r.n in
         let away = away_point_is v d n in
-        sym (r.alike r.n (omega arith) d (away_point v d n) q (away_near r.n (omega arith) away) near (away_cone (omega arith) away) (way_to_is v q apart))
+        sym (r.alike r.n (omega arith) d (away_point v d n) q (away_near r.n (omega arith) away) near (away_cone (omega arith) away)
+        (way_to_is v q apart))
         ∙ held.holds (suc n) (omega arith) (away_point v d n) away

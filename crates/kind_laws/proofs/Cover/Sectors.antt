@@ -34,10 +34,13 @@ use Rattle.germ_laws.proofs.Room.Ways.{germ_of_way, left_turn, left_turn_left}
 use Rattle.germ_laws.proofs.Rays.Places.{HasItem, item_at, in_sector_of}
 
 -- ---- one area covers for all
-pub covered_at : (areas : List Area) (place : ℕ) (area : Area) → IsAtPlace areas place area → (q : Point) → is_not_exterior (location area q) ≡ true → is_covered_by q areas ≡ true
+pub covered_at : (areas : List Area) (place : ℕ) (area : Area) → IsAtPlace areas place area → (q : Point)
+    → is_not_exterior (location area q) ≡ true → is_covered_by q areas ≡ true
 covered_at [] place area is q h = cc
-covered_at (first ∷ areas) zero area is q h = or_left (is_not_exterior (location first q)) (is_covered_by q areas) (subst (λ (a : Area). is_not_exterior (location a q) ≡ true) (sym (some_same is)) h)
-covered_at (first ∷ areas) (suc place) area is q h = or_right (is_not_exterior (location first q)) (is_covered_by q areas) (covered_at areas place area is q h)
+covered_at (first ∷ areas) zero area is q h = or_left (is_not_exterior (location first q)) (is_covered_by q areas)
+    (subst (λ (a : Area). is_not_exterior (location a q) ≡ true) (sym (some_same is)) h)
+covered_at (first ∷ areas) (suc place) area is q h = or_right (is_not_exterior (location first q)) (is_covered_by q areas)
+    (covered_at areas place area is q h)
 
 pub is_exterior : (g : Loc) → is_not_exterior g ≡ false → g ≡ Exterior
 is_exterior Interior h = cc
@@ -48,10 +51,13 @@ pub not_exterior : {g : Loc} → is_not_exterior g ≡ true → g ≡ Exterior �
 not_exterior h e = true≢false (sym h ∙ ap is_not_exterior e)
 
 module _ (f : Figure) (shaped : IsWellShaped f) (v : Point) (rays : List Dir) (ascending : AllPairs (λ d e. compare_angles d e ≡ Less) rays)
-    (clear : (place : ℕ) (area : Area) → IsAtPlace f.areas place area → (i : ℕ) (r s : Dir) → IsAtPlace rays i r → IsAtPlace rays ((i + 1) % length rays) s → HasNoEdgeWithin area v (direction_of r) (direction_of s))
+    (clear : (place : ℕ) (area : Area) → IsAtPlace f.areas place area → (i : ℕ) (r s : Dir) → IsAtPlace rays i r
+    → IsAtPlace rays ((i + 1) % length rays) s → HasNoEdgeWithin area v (direction_of r) (direction_of s))
     (sectors : AreSectorsCovered f v rays) where
-  along_ray : (i : ℕ) (ray : Dir) → IsAtPlace rays i ray → (d : Direction) → PointSameWay (direction_of ray) d → HoldsAlong (λ q. is_covered f q ≡ true) v d
-  along_ray i ray is d q = by_next (item_at rays ((i + 1) % length rays) (let below = slice_get_within rays i ray is in omega (arith, below)))
+  along_ray : (i : ℕ) (ray : Dir) → IsAtPlace rays i ray → (d : Direction) → PointSameWay (direction_of ray) d
+      → HoldsAlong (λ q. is_covered f q ≡ true) v d
+  along_ray i ray is d q = by_next
+      (item_at rays ((i + 1) % length rays) (let below = slice_get_within rays i ray is in omega (arith, below)))
     where
       r : Direction
       r = direction_of ray
@@ -62,13 +68,20 @@ module _ (f : Figure) (shaped : IsWellShaped f) (v : Point) (rays : List Dir) (a
       bent : ¬ (bend_of r t ≡ pos 0)
       bent z = <ℤ_apart (left_turn_left r) (sym z)
 
-      by_cover : (s : Dir) → IsAtPlace rays ((i + 1) % length rays) s → (e : Direction) → IsStrictlyWithin r (direction_of s) e → (c : HasCover f.areas v e) → (k : Loc) → IsGerm c.area v r k → (b : Bool) → is_not_exterior k ≡ b → HoldsAlong (λ p. is_covered f p ≡ true) v d
+      by_cover : (s : Dir) → IsAtPlace rays ((i + 1) % length rays) s → (e : Direction) → IsStrictlyWithin r (direction_of s) e
+          → (c : HasCover f.areas v e) → (k : Loc) → IsGerm c.area v r k → (b : Bool) → is_not_exterior k ≡ b
+          → HoldsAlong (λ p. is_covered f p ≡ true) v d
       by_cover s s_is e w c k k_is true h =
           let on = germ_of_way c.area (area_shaped f shaped c.place c.area c.is) v r d q k k_is in
-          record { from = on.from; holds = λ n far p away. covered_at f.areas c.place c.area c.is p (ap is_not_exterior (on.holds n far p away) ∙ h) }
+          record {
+            from = on.from;
+            holds = λ n far p away. covered_at f.areas c.place c.area c.is p
+                (ap is_not_exterior (on.holds n far p away) ∙ h);
+          }
       by_cover s s_is e w c k k_is false h =
           absurd (not_exterior c.covers
-          (sector_is_closed c.area (area_shaped f shaped c.place c.area c.is) v r (direction_of s) (clear c.place c.area c.is i ray s is s_is) t (left_turn_left r)
+          (sector_is_closed c.area (area_shaped f shaped c.place c.area c.is) v r (direction_of s)
+          (clear c.place c.area c.is i ray s is s_is) t (left_turn_left r)
           (subst (λ g. IsGerm c.area v r g) (is_exterior k h) k_is) e w c.germ c.germ_is))
 
       by_next : HasItem rays ((i + 1) % length rays) → HoldsAlong (λ p. is_covered f p ≡ true) v d
@@ -101,7 +114,8 @@ module _ (f : Figure) (shaped : IsWellShaped f) (v : Point) (rays : List Dir) (a
       by_test true h = covered_at f.areas c.place c.area c.is v h
       by_test false h =
           let out = is_exterior (location c.area v) h in
-          absurd (not_exterior c.covers (germ_one c.area v d c.germ (location c.area v) c.germ_is (settled c.area sh v (off_edges c.area v out) d) ∙ out))
+          absurd (not_exterior c.covers
+          (germ_one c.area v d c.germ (location c.area v) c.germ_is (settled c.area sh v (off_edges c.area v out) d) ∙ out))
 
   pub interior_from_sectors : Direction → IsAreaInterior f v
   interior_from_sectors d = interior_from_around f shaped v (record { here = here d; along = along })

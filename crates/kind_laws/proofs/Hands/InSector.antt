@@ -58,15 +58,21 @@ module _ (f : Figure) (shaped : IsWellShaped f) (valid : IsValid f) (place : ℕ
   simple : (k : ℕ) (ring : List Pt) → IsAtPlace (rings_of area) k ring → IsSimple (edges_of ring)
   simple k ring ring_is =
       ring_is_simple ring (ring_shaped area clean.shaped k ring ring_is).closed
-      (λ h. valid place ring_cross (record { area = area; area_is = is; is_so = record { place = k; ring = ring; ring_is = ring_is; is_so = h } }))
+      (λ h. valid place ring_cross
+      (record { area = area; area_is = is; is_so = record { place = k; ring = ring; ring_is = ring_is; is_so = h } }))
 
-  pub one_edge_a_way : (i j : ℕ) (e g : Seg) → IsAtPlace (edges_of_rings (rings_of area)) i e → IsAtPlace (edges_of_rings (rings_of area)) j g → (v q : Point) → ¬ IsSamePoint v q → IsOnEdge e v → IsOnEdge g v → IsOnEdge g q → IsStrictlyBetween (point_of e.a) (point_of e.b) q → e ≡ g
-  one_edge_a_way i j e g e_is g_is v q apart on_e on_g on_q between = by_ring (ring_of (rings_of area) i e e_is) (ring_of (rings_of area) j g g_is)
+  pub one_edge_a_way : (i j : ℕ) (e g : Seg) → IsAtPlace (edges_of_rings (rings_of area)) i e
+      → IsAtPlace (edges_of_rings (rings_of area)) j g → (v q : Point) → ¬ IsSamePoint v q → IsOnEdge e v → IsOnEdge g v → IsOnEdge g q
+      → IsStrictlyBetween (point_of e.a) (point_of e.b) q → e ≡ g
+  one_edge_a_way i j e g e_is g_is v q apart on_e on_g on_q between =
+      by_ring (ring_of (rings_of area) i e e_is) (ring_of (rings_of area) j g g_is)
     where
       q_on_e : IsOnEdge e q
       q_on_e = on_from_strictly_between between
 
-      crossed : (k l : ℕ) → k < l → (one other : List Pt) → IsAtPlace (rings_of area) k one → IsAtPlace (rings_of area) l other → (x y : ℕ) (a b : Seg) → IsAtPlace (edges_of one) x a → IsAtPlace (edges_of other) y b → IsOnEdge a v → IsOnEdge a q → IsOnEdge b v → IsOnEdge b q → ⊥
+      crossed : (k l : ℕ) → k < l → (one other : List Pt) → IsAtPlace (rings_of area) k one → IsAtPlace (rings_of area) l other
+          → (x y : ℕ) (a b : Seg) → IsAtPlace (edges_of one) x a → IsAtPlace (edges_of other) y b → IsOnEdge a v → IsOnEdge a q
+          → IsOnEdge b v → IsOnEdge b q → ⊥
       crossed k l before one other one_is other_is x y a b a_is b_is a_v a_q b_v b_q =
           clean.unshared (record {
             i = k;
@@ -76,12 +82,23 @@ module _ (f : Figure) (shaped : IsWellShaped f) (valid : IsValid f) (place : ℕ
             other = other;
             one_is = one_is;
             other_is = other_is;
-            share = record { i = x; j = y; e = a; f = b; e_is = a_is; f_is = b_is; share = record { a = v; b = q; apart = apart; held = λ p on. (segment_within a_v a_q on, segment_within b_v b_q on) } };
+            share = record {
+              i = x;
+              j = y;
+              e = a;
+              f = b;
+              e_is = a_is;
+              f_is = b_is;
+              share =
+                  record { a = v; b = q; apart = apart; held = λ p on. (segment_within a_v a_q on, segment_within b_v b_q on) };
+            };
           })
 
-      by_place : (ring : List Pt) → IsSimple (edges_of ring) → (x y : ℕ) → IsAtPlace (edges_of ring) x e → IsAtPlace (edges_of ring) y g → (x ≡ y) ⊎ (x ≡ y → ⊥) → e ≡ g
+      by_place : (ring : List Pt) → IsSimple (edges_of ring) → (x y : ℕ) → IsAtPlace (edges_of ring) x e → IsAtPlace (edges_of ring) y g
+          → (x ≡ y) ⊎ (x ≡ y → ⊥) → e ≡ g
       by_place ring s x y x_is y_is (inl h) = some_same (sym x_is ∙ ap (slice_get (edges_of ring)) h ∙ y_is)
-      by_place ring s x y x_is y_is (inr n) = absurd (alone_within s x y e g n x_is y_is q (between_not_start between) (between_not_end between) q_on_e on_q)
+      by_place ring s x y x_is y_is (inr n) = absurd
+          (alone_within s x y e g n x_is y_is q (between_not_start between) (between_not_end between) q_on_e on_q)
 
       by_ring : HasRing (rings_of area) e → HasRing (rings_of area) g → e ≡ g
       by_ring a b = by_order (cases_order a.k b.k)
@@ -89,7 +106,8 @@ module _ (f : Figure) (shaped : IsWellShaped f) (valid : IsValid f) (place : ℕ
           by_order : (a.k ≡ b.k) ⊎ ((a.k < b.k) ⊎ (b.k < a.k)) → e ≡ g
           by_order (inl h) =
               let one : a.ring ≡ b.ring = some_same (sym a.ring_is ∙ ap (slice_get (rings_of area)) h ∙ b.ring_is) in
-              by_place a.ring (simple a.k a.ring a.ring_is) a.i b.i a.is (subst (λ ring. IsAtPlace (edges_of ring) b.i g) (sym one) b.is) (cases_eq a.i b.i)
+              by_place a.ring (simple a.k a.ring a.ring_is) a.i b.i a.is (subst (λ ring. IsAtPlace (edges_of ring) b.i g) (sym one) b.is)
+              (cases_eq a.i b.i)
           by_order (inr (inl h)) = absurd (crossed a.k b.k h a.ring b.ring a.ring_is b.ring_is a.i b.i e g a.is b.is on_e q_on_e on_g on_q)
           by_order (inr (inr h)) = absurd (crossed b.k a.k h b.ring a.ring b.ring_is a.ring_is b.i a.i g e b.is a.is on_g on_q on_e q_on_e)
 
@@ -97,7 +115,8 @@ module _ (f : Figure) (shaped : IsWellShaped f) (valid : IsValid f) (place : ℕ
   moving i e e_is = let a = ring_of (rings_of area) i e e_is in (simple a.k a.ring a.ring_is).moving a.i e a.is
 
 -- ---- on a segment and at neither end is strictly between
-only_other : (k s t p_x p_w b_x b_w a_x a_w : ℤ) → pos 0 <ℤ k → s ≡ pos 0 → k *ℤ p_x ≡ (s *ℤ a_x) +ℤ (t *ℤ b_x) → k *ℤ p_w ≡ (s *ℤ a_w) +ℤ (t *ℤ b_w) → b_x *ℤ p_w ≡ p_x *ℤ b_w
+only_other : (k s t p_x p_w b_x b_w a_x a_w : ℤ) → pos 0 <ℤ k → s ≡ pos 0 → k *ℤ p_x ≡ (s *ℤ a_x) +ℤ (t *ℤ b_x)
+    → k *ℤ p_w ≡ (s *ℤ a_w) +ℤ (t *ℤ b_w) → b_x *ℤ p_w ≡ p_x *ℤ b_w
 only_other k s t p_x p_w b_x b_w a_x a_w hk z e f =
     let none = zero_factor k ((b_x *ℤ p_w) -ℤ (p_x *ℤ b_w)) (pos_nonzero hk)
     (same_from (var 0 ⊗ (var 5 ⊗ var 4 ⊖ var 3 ⊗ var 6)) (num (pos 0)) (k ∷ s ∷ t ∷ p_x ∷ p_w ∷ b_x ∷ b_w ∷ a_x ∷ a_w ∷ [])
@@ -106,7 +125,8 @@ only_other k s t p_x p_w b_x b_w a_x a_w hk z e f =
     ⊞ scaled (var 5 ⊗ var 8 ⊖ var 6 ⊗ var 7) (same (var 1) (num (pos 0)) z)) refl) in
     omega (arith, linear, none)
 
-pub strictly_from_on : {a b q : Point} → ¬ IsSamePoint a b → IsOnSegment a b q → ¬ IsSamePoint a q → ¬ IsSamePoint b q → IsStrictlyBetween a b q
+pub strictly_from_on : {a b q : Point} → ¬ IsSamePoint a b → IsOnSegment a b q → ¬ IsSamePoint a q → ¬ IsSamePoint b q
+    → IsStrictlyBetween a b q
 strictly_from_on {a} {b} {q} apart on not_a not_b = record {
   s = on.s;
   t = on.t;
@@ -116,8 +136,10 @@ strictly_from_on {a} {b} {q} apart on not_a not_b = record {
     above = only_other on.mix.times on.s on.t q.y q.w b.y b.w a.y a.w on.mix.some z on.mix.above on.mix.mass;
   }))) (λ h. h);
   some_second = by_sign on.t (λ h. absurd (under on.t h on.mix.second)) (λ z. absurd (not_a (record {
-    across = only_other on.mix.times on.t on.s q.x q.w a.x a.w b.x b.w on.mix.some z (let e = on.mix.across in omega (arith, linear, e)) (let e = on.mix.mass in omega (arith, linear, e));
-    above = only_other on.mix.times on.t on.s q.y q.w a.y a.w b.y b.w on.mix.some z (let e = on.mix.above in omega (arith, linear, e)) (let e = on.mix.mass in omega (arith, linear, e));
+    across = only_other on.mix.times on.t on.s q.x q.w a.x a.w b.x b.w on.mix.some z (let e = on.mix.across in omega (arith, linear, e))
+        (let e = on.mix.mass in omega (arith, linear, e));
+    above = only_other on.mix.times on.t on.s q.y q.w a.y a.w b.y b.w on.mix.some z (let e = on.mix.above in omega (arith, linear, e))
+        (let e = on.mix.mass in omega (arith, linear, e));
   }))) (λ h. h);
   apart = apart;
 }
@@ -126,20 +148,25 @@ strictly_from_on {a} {b} {q} apart on not_a not_b = record {
     under z h k = omega (arith, linear, h, k)
 
 -- ---- the slope of a direction beside an edge that runs along r
-slope_sign : (k w m c bx by rx ry tx ty : ℤ) → pos 0 <ℤ k → pos 0 ≤ℤ w → pos 0 <ℤ m → pos 0 <ℤ c → k *ℤ (w *ℤ bx) ≡ m *ℤ (c *ℤ rx) → k *ℤ (w *ℤ by) ≡ m *ℤ (c *ℤ ry) → pos 0 <ℤ ((rx *ℤ ty) -ℤ (ry *ℤ tx)) → pos 0 <ℤ ((bx *ℤ ty) -ℤ (by *ℤ tx))
+slope_sign : (k w m c bx by rx ry tx ty : ℤ) → pos 0 <ℤ k → pos 0 ≤ℤ w → pos 0 <ℤ m → pos 0 <ℤ c → k *ℤ (w *ℤ bx) ≡ m *ℤ (c *ℤ rx)
+    → k *ℤ (w *ℤ by) ≡ m *ℤ (c *ℤ ry) → pos 0 <ℤ ((rx *ℤ ty) -ℤ (ry *ℤ tx)) → pos 0 <ℤ ((bx *ℤ ty) -ℤ (by *ℤ tx))
 slope_sign k w m c bx by rx ry tx ty hk hw hm hc e f h =
     less_by (num (pos 0)) (var 4 ⊗ var 9 ⊖ var 5 ⊗ var 8) (k ∷ w ∷ m ∷ c ∷ bx ∷ by ∷ rx ∷ ry ∷ tx ∷ ty ∷ [])
-    (λ denied. denied ⊠ natural (var 1) hw ⊠ positive (var 0) hk ⊞ positive (var 2) hm ⊠ positive (var 3) hc ⊠ positive (var 6 ⊗ var 9 ⊖ var 7 ⊗ var 8) h
+    (λ denied. denied ⊠ natural (var 1) hw ⊠ positive (var 0) hk
+    ⊞ positive (var 2) hm ⊠ positive (var 3) hc ⊠ positive (var 6 ⊗ var 9 ⊖ var 7 ⊗ var 8) h
     ⊞ scaled (var 9) (same (var 0 ⊗ (var 1 ⊗ var 4)) (var 2 ⊗ (var 3 ⊗ var 6)) e)
     ⊞ scaled (minus (var 8)) (same (var 0 ⊗ (var 1 ⊗ var 5)) (var 2 ⊗ (var 3 ⊗ var 7)) f)) refl
 
 -- the steps: k steps to the end are c of r, m of them are w of the edge
-pub step_ahead : (k m w i j step whole r : ℤ) → k *ℤ step ≡ (i *ℤ r) +ℤ (j *ℤ r) → m *ℤ step ≡ w *ℤ whole → k *ℤ (w *ℤ whole) ≡ m *ℤ ((i +ℤ j) *ℤ r)
+pub step_ahead : (k m w i j step whole r : ℤ) → k *ℤ step ≡ (i *ℤ r) +ℤ (j *ℤ r) → m *ℤ step ≡ w *ℤ whole
+    → k *ℤ (w *ℤ whole) ≡ m *ℤ ((i +ℤ j) *ℤ r)
 step_ahead k m w i j step whole r e f =
     same_from (var 0 ⊗ (var 2 ⊗ var 6)) (var 1 ⊗ ((var 3 ⊕ var 4) ⊗ var 7)) (k ∷ m ∷ w ∷ i ∷ j ∷ step ∷ whole ∷ r ∷ [])
-    (scaled (var 1) (same (var 0 ⊗ var 5) (var 3 ⊗ var 7 ⊕ var 4 ⊗ var 7) e) ⊞ scaled (minus (var 0)) (same (var 1 ⊗ var 5) (var 2 ⊗ var 6) f)) refl
+    (scaled (var 1) (same (var 0 ⊗ var 5) (var 3 ⊗ var 7 ⊕ var 4 ⊗ var 7) e)
+    ⊞ scaled (minus (var 0)) (same (var 1 ⊗ var 5) (var 2 ⊗ var 6) f)) refl
 
-pub step_back : (k m w i j step back whole r : ℤ) → k *ℤ step ≡ (i *ℤ r) +ℤ (j *ℤ r) → step ≡ neg_ℤ back → m *ℤ back ≡ w *ℤ whole → k *ℤ (w *ℤ neg_ℤ whole) ≡ m *ℤ ((i +ℤ j) *ℤ r)
+pub step_back : (k m w i j step back whole r : ℤ) → k *ℤ step ≡ (i *ℤ r) +ℤ (j *ℤ r) → step ≡ neg_ℤ back → m *ℤ back ≡ w *ℤ whole
+    → k *ℤ (w *ℤ neg_ℤ whole) ≡ m *ℤ ((i +ℤ j) *ℤ r)
 step_back k m w i j step back whole r e b f =
     same_from (var 0 ⊗ (var 2 ⊗ minus (var 7))) (var 1 ⊗ ((var 3 ⊕ var 4) ⊗ var 8)) (k ∷ m ∷ w ∷ i ∷ j ∷ step ∷ back ∷ whole ∷ r ∷ [])
     (scaled (var 1) (same (var 0 ⊗ var 5) (var 3 ⊗ var 8 ⊕ var 4 ⊗ var 8) e)
@@ -154,28 +181,39 @@ pub rise_back : (a v : Point) → rise v a ≡ neg_ℤ (rise a v)
 unfolding rise
 rise_back a v = omega (arith, linear)
 
-pub left_forward : (e : Seg) {v : Point} {r : Direction} → IsOnEdge e v → IsInCone v r r (point_of e.b) → (t : Direction) → pos 0 <ℤ bend_of r t → pos 0 <ℤ slope e t
+pub left_forward : (e : Seg) {v : Point} {r : Direction} → IsOnEdge e v → IsInCone v r r (point_of e.b) → (t : Direction)
+    → pos 0 <ℤ bend_of r t → pos 0 <ℤ slope e t
 unfolding bend_of
 left_forward e {v} {r} on c t h =
-    slope_sign c.times on.s on.mix.times (c.i +ℤ c.j) (e.b.x -ℤ e.a.x) (e.b.y -ℤ e.a.y) r.x r.y t.x t.y c.positive on.mix.first on.mix.some c.some
-    (step_ahead c.times on.mix.times on.s c.i c.j (shift v (point_of e.b)) (e.b.x -ℤ e.a.x) r.x c.across (mix_shift_end on.mix ∙ ap (λ z. on.s *ℤ z) (shift-positions e.a e.b)))
-    (step_ahead c.times on.mix.times on.s c.i c.j (rise v (point_of e.b)) (e.b.y -ℤ e.a.y) r.y c.above (mix_rise_end on.mix ∙ ap (λ z. on.s *ℤ z) (rise-positions e.a e.b)))
+    slope_sign c.times on.s on.mix.times (c.i +ℤ c.j) (e.b.x -ℤ e.a.x) (e.b.y -ℤ e.a.y) r.x r.y t.x t.y c.positive on.mix.first
+    on.mix.some c.some
+    (step_ahead c.times on.mix.times on.s c.i c.j (shift v (point_of e.b)) (e.b.x -ℤ e.a.x) r.x c.across
+    (mix_shift_end on.mix ∙ ap (λ z. on.s *ℤ z) (shift-positions e.a e.b)))
+    (step_ahead c.times on.mix.times on.s c.i c.j (rise v (point_of e.b)) (e.b.y -ℤ e.a.y) r.y c.above
+    (mix_rise_end on.mix ∙ ap (λ z. on.s *ℤ z) (rise-positions e.a e.b)))
     h
 
-pub right_backward : (e : Seg) {v : Point} {r : Direction} → IsOnEdge e v → IsInCone v r r (point_of e.a) → (t : Direction) → pos 0 <ℤ bend_of r t → slope e t <ℤ pos 0
+pub right_backward : (e : Seg) {v : Point} {r : Direction} → IsOnEdge e v → IsInCone v r r (point_of e.a) → (t : Direction)
+    → pos 0 <ℤ bend_of r t → slope e t <ℤ pos 0
 unfolding bend_of
 right_backward e {v} {r} on c t h =
-    let k = slope_sign c.times on.t on.mix.times (c.i +ℤ c.j) (neg_ℤ (e.b.x -ℤ e.a.x)) (neg_ℤ (e.b.y -ℤ e.a.y)) r.x r.y t.x t.y c.positive on.mix.second on.mix.some c.some
-    (step_back c.times on.mix.times on.t c.i c.j (shift v (point_of e.a)) (shift (point_of e.a) v) (e.b.x -ℤ e.a.x) r.x c.across (shift_back (point_of e.a) v) (mix_shift_start on.mix ∙ ap (λ z. on.t *ℤ z) (shift-positions e.a e.b)))
-    (step_back c.times on.mix.times on.t c.i c.j (rise v (point_of e.a)) (rise (point_of e.a) v) (e.b.y -ℤ e.a.y) r.y c.above (rise_back (point_of e.a) v) (mix_rise_start on.mix ∙ ap (λ z. on.t *ℤ z) (rise-positions e.a e.b)))
+    let k = slope_sign c.times on.t on.mix.times (c.i +ℤ c.j) (neg_ℤ (e.b.x -ℤ e.a.x))
+    (neg_ℤ (e.b.y -ℤ e.a.y)) r.x r.y t.x t.y c.positive on.mix.second on.mix.some c.some
+    (step_back c.times on.mix.times on.t c.i c.j (shift v (point_of e.a)) (shift (point_of e.a) v) (e.b.x -ℤ e.a.x) r.x c.across
+    (shift_back (point_of e.a) v) (mix_shift_start on.mix ∙ ap (λ z. on.t *ℤ z) (shift-positions e.a e.b)))
+    (step_back c.times on.mix.times on.t c.i c.j (rise v (point_of e.a)) (rise (point_of e.a) v) (e.b.y -ℤ e.a.y) r.y c.above
+    (rise_back (point_of e.a) v) (mix_rise_start on.mix ∙ ap (λ z. on.t *ℤ z) (rise-positions e.a e.b)))
     h in
     turned (e.b.x -ℤ e.a.x) (e.b.y -ℤ e.a.y) t.x t.y k
   where
     turned : (bx by tx ty : ℤ) → pos 0 <ℤ ((neg_ℤ bx *ℤ ty) -ℤ (neg_ℤ by *ℤ tx)) → ((bx *ℤ ty) -ℤ (by *ℤ tx)) <ℤ pos 0
-    turned bx by tx ty h = less_by (var 0 ⊗ var 3 ⊖ var 1 ⊗ var 2) (num (pos 0)) (bx ∷ by ∷ tx ∷ ty ∷ []) (λ denied. denied ⊞ positive (minus (var 0) ⊗ var 3 ⊖ minus (var 1) ⊗ var 2) h) refl
+    turned bx by tx ty h = less_by (var 0 ⊗ var 3 ⊖ var 1 ⊗ var 2) (num (pos 0)) (bx ∷ by ∷ tx ∷ ty ∷ [])
+        (λ denied. denied ⊞ positive (minus (var 0) ⊗ var 3 ⊖ minus (var 1) ⊗ var 2) h) refl
 
 -- from the hand of the way: what an area's hand says of a direction to the left of the way
-way_inside : (area : Area) (e : Seg) (forward : Bool) (side : Hand) → IsAreaHand area e (hand_of_way forward side) → {v : Point} {r : Direction} → IsOnEdge e v → IsInCone v r r (point_of (far_end forward e)) → (t : Direction) → pos 0 <ℤ bend_of r t → (q : Point) → IsOnEdgeAlone area e q → (side ≡ hand.Left → IsGerm area q t Interior) × (side ≡ hand.Right → IsGerm area q t Exterior)
+way_inside : (area : Area) (e : Seg) (forward : Bool) (side : Hand) → IsAreaHand area e (hand_of_way forward side)
+    → {v : Point} {r : Direction} → IsOnEdge e v → IsInCone v r r (point_of (far_end forward e)) → (t : Direction) → pos 0 <ℤ bend_of r t
+    → (q : Point) → IsOnEdgeAlone area e q → (side ≡ hand.Left → IsGerm area q t Interior) × (side ≡ hand.Right → IsGerm area q t Exterior)
 way_inside area e true hand.Left h on c t left q one = (λ _. h.inside q one t (left_forward e on c t left), λ z. cc)
 way_inside area e true hand.Right h on c t left q one = (λ z. cc, λ _. h.outside q one t (left_forward e on c t left))
 way_inside area e true hand.Line h on c t left q one = (λ z. cc, λ z. cc)
@@ -187,15 +225,18 @@ way_inside area e false hand.Line h on c t left q one = (λ z. cc, λ z. cc)
 abbrev spot : Pt → Seg
 spot a = record { a = a; b = a }
 
-not_end : (v q : Point) (a : Pt) → (is_on_edge v (spot a) ≡ false → is_on_edge q (spot a) ≡ false) → ¬ IsSamePoint v q → ¬ IsSamePoint (point_of a) q
+not_end : (v q : Point) (a : Pt) → (is_on_edge v (spot a) ≡ false → is_on_edge q (spot a) ≡ false) → ¬ IsSamePoint v q
+    → ¬ IsSamePoint (point_of a) q
 not_end v q a held apart h = by_test (is_on_edge v (spot a)) refl
   where
     by_test : (b : Bool) → is_on_edge v (spot a) ≡ b → ⊥
     by_test true on = apart (same_trans (same_sym (on_segment_of_same (same_refl (point_of a)) (on_true {p = v} {f = spot a} on))) h)
     by_test false off =
-        true≢false (sym ((Decides-is_on_segment (point_of a) (point_of a) q).1 (segment_same (same_refl (point_of a)) (same_refl (point_of a)) h (start_on_segment (point_of a) (point_of a)))) ∙ held off)
+        true≢false (sym ((Decides-is_on_segment (point_of a) (point_of a) q).1
+        (segment_same (same_refl (point_of a)) (same_refl (point_of a)) h (start_on_segment (point_of a) (point_of a)))) ∙ held off)
 
-far_held : (forward : Bool) (e : Seg) (v m : Point) → HoldBoth v m (spot e.a ∷ spot e.b ∷ []) → is_on_edge v (spot (far_end forward e)) ≡ false → is_on_edge m (spot (far_end forward e)) ≡ false
+far_held : (forward : Bool) (e : Seg) (v m : Point) → HoldBoth v m (spot e.a ∷ spot e.b ∷ [])
+    → is_on_edge v (spot (far_end forward e)) ≡ false → is_on_edge m (spot (far_end forward e)) ≡ false
 far_held true e v m both = both.1.0
 far_held false e v m both = both.0
 

@@ -23,7 +23,8 @@ unfolding away_point
 away_point_is v d n = record { across = refl; above = refl }
 
 -- n steps from v to v + d/n are d
-step_of_away : (p v n d v_w p_w : ℤ) → p *ℤ (v_w *ℤ n) ≡ ((v *ℤ n) +ℤ (d *ℤ v_w)) *ℤ p_w → n *ℤ ((p *ℤ v_w) -ℤ (v *ℤ p_w)) ≡ d *ℤ (v_w *ℤ p_w)
+step_of_away : (p v n d v_w p_w : ℤ) → p *ℤ (v_w *ℤ n) ≡ ((v *ℤ n) +ℤ (d *ℤ v_w)) *ℤ p_w
+    → n *ℤ ((p *ℤ v_w) -ℤ (v *ℤ p_w)) ≡ d *ℤ (v_w *ℤ p_w)
 step_of_away p v n d v_w p_w e =
     same_from (var 2 ⊗ (var 0 ⊗ var 4 ⊖ var 1 ⊗ var 5)) (var 3 ⊗ (var 4 ⊗ var 5)) (p ∷ v ∷ n ∷ d ∷ v_w ∷ p_w ∷ [])
     (same (var 0 ⊗ (var 4 ⊗ var 2)) ((var 1 ⊗ var 2 ⊕ var 3 ⊗ var 4) ⊗ var 5) e) refl
@@ -55,8 +56,10 @@ far_for d k = k * (size_of d.x + size_of d.y)
 
 times_size : (k : ℕ) {z : ℤ} {s : ℕ} (r n : ℕ) → IsSize z s → s ≤ r → k * r < n → ((pos k *ℤ z) ≤ℤ pos n) × (neg_ℤ (pos n) ≤ℤ (pos k *ℤ z))
 times_size k {z} {s} r n size wide far =
-    let up : (pos k *ℤ z) ≤ℤ (pos k *ℤ pos r) = scale_≤ℤ {a = z} {b = pos r} {c = pos k} (omega (arith, linear)) (omega (arith, linear, size.below, wide)) in
-    let down : (pos k *ℤ neg_ℤ (pos r)) ≤ℤ (pos k *ℤ z) = scale_≤ℤ {a = neg_ℤ (pos r)} {b = z} {c = pos k} (omega (arith, linear)) (omega (arith, linear, size.above, wide)) in
+    let up : (pos k *ℤ z) ≤ℤ (pos k *ℤ pos r) = scale_≤ℤ {a = z} {b = pos r} {c = pos k} (omega (arith, linear))
+    (omega (arith, linear, size.below, wide)) in
+    let down : (pos k *ℤ neg_ℤ (pos r)) ≤ℤ (pos k *ℤ z) = scale_≤ℤ {a = neg_ℤ (pos r)} {b = z} {c = pos k} (omega (arith, linear))
+    (omega (arith, linear, size.above, wide)) in
     (omega (arith, linear, up, far), omega (arith, linear, down, far, *ℤ-neg (pos k) (pos r)))
 
 pub away_near : {v : Point} {d : Direction} {n : ℕ} {p : Point} (k : ℕ) → far_for d k < n → IsAway v d n p → IsNear v k p
@@ -74,7 +77,8 @@ away_near {v} {d} {n} {p} k far away =
     }
 
 -- ---- a segment between points in two directions lies between these
-cone_step : (k s t n l x y z d e v_w p_w q_w : ℤ) → k *ℤ z ≡ (s *ℤ x) +ℤ (t *ℤ y) → n *ℤ x ≡ d *ℤ (v_w *ℤ p_w) → l *ℤ y ≡ e *ℤ (v_w *ℤ q_w) → (k *ℤ (n *ℤ l)) *ℤ z ≡ (((s *ℤ l) *ℤ (v_w *ℤ p_w)) *ℤ d) +ℤ (((t *ℤ n) *ℤ (v_w *ℤ q_w)) *ℤ e)
+cone_step : (k s t n l x y z d e v_w p_w q_w : ℤ) → k *ℤ z ≡ (s *ℤ x) +ℤ (t *ℤ y) → n *ℤ x ≡ d *ℤ (v_w *ℤ p_w)
+    → l *ℤ y ≡ e *ℤ (v_w *ℤ q_w) → (k *ℤ (n *ℤ l)) *ℤ z ≡ (((s *ℤ l) *ℤ (v_w *ℤ p_w)) *ℤ d) +ℤ (((t *ℤ n) *ℤ (v_w *ℤ q_w)) *ℤ e)
 cone_step k s t n l x y z d e v_w p_w q_w h f g =
     same_from ((var 0 ⊗ (var 3 ⊗ var 4)) ⊗ var 7)
     (((var 1 ⊗ var 4) ⊗ (var 10 ⊗ var 11)) ⊗ var 8 ⊕ ((var 2 ⊗ var 3) ⊗ (var 10 ⊗ var 12)) ⊗ var 9)
@@ -91,13 +95,16 @@ some_weight {a} {b} {m} {s} {t} mix =
     ⊞ natural (var 1) mix.first ⊠ positive (var 4) b.heavy ⊞ natural (var 2) mix.second ⊠ positive (var 3) a.heavy
     ⊞ positive (var 0) mix.some ⊠ positive (var 5) m.heavy ⊞ same (var 1 ⊗ var 3 ⊕ var 2 ⊗ var 4) (var 0 ⊗ var 5) (sym mix.mass)) refl
 
-cone_some : (s t n l u w : ℤ) → pos 0 ≤ℤ s → pos 0 ≤ℤ t → pos 0 <ℤ (s +ℤ t) → pos 0 <ℤ n → pos 0 <ℤ l → pos 0 <ℤ u → pos 0 <ℤ w → pos 0 <ℤ (((s *ℤ l) *ℤ u) +ℤ ((t *ℤ n) *ℤ w))
+cone_some : (s t n l u w : ℤ) → pos 0 ≤ℤ s → pos 0 ≤ℤ t → pos 0 <ℤ (s +ℤ t) → pos 0 <ℤ n → pos 0 <ℤ l → pos 0 <ℤ u → pos 0 <ℤ w
+    → pos 0 <ℤ (((s *ℤ l) *ℤ u) +ℤ ((t *ℤ n) *ℤ w))
 cone_some s t n l u w hs ht h hn hl hu hw =
     less_by (num (pos 0)) ((var 0 ⊗ var 3) ⊗ var 4 ⊕ (var 1 ⊗ var 2) ⊗ var 5) (s ∷ t ∷ n ∷ l ∷ u ∷ w ∷ [])
-    (λ denied. denied ⊞ natural (var 0) hs ⊠ whole (positive (var 3 ⊗ var 4) (pos-*-pos hl hu)) ⊞ natural (var 1) ht ⊠ whole (positive (var 2 ⊗ var 5) (pos-*-pos hn hw))
+    (λ denied. denied ⊞ natural (var 0) hs ⊠ whole (positive (var 3 ⊗ var 4) (pos-*-pos hl hu))
+    ⊞ natural (var 1) ht ⊠ whole (positive (var 2 ⊗ var 5) (pos-*-pos hn hw))
     ⊞ positive (var 0 ⊕ var 1) h) refl
 
-pub between_in_cone : {v : Point} {d e : Direction} {n l : ℕ} {p q m : Point} → 0 < n → 0 < l → IsAway v d n p → IsAway v e l q → IsOnSegment p q m → IsInCone v d e m
+pub between_in_cone : {v : Point} {d e : Direction} {n l : ℕ} {p q m : Point} → 0 < n → 0 < l → IsAway v d n p → IsAway v e l q
+    → IsOnSegment p q m → IsInCone v d e m
 between_in_cone {v} {d} {e} {n} {l} {p} {q} {m} hn hl away away' on =
     let x = on.mix in
     let wp : pos 0 <ℤ (v.w *ℤ p.w) = pos-*-pos v.heavy p.heavy in
@@ -112,6 +119,8 @@ between_in_cone {v} {d} {e} {n} {l} {p} {q} {m} hn hl away away' on =
       some = cone_some on.s on.t (pos n) (pos l) (v.w *ℤ p.w) (v.w *ℤ q.w) x.first x.second (some_weight x) some_n some_l wp wq;
       times = x.times *ℤ (pos n *ℤ pos l);
       positive = pos-*-pos x.some (pos-*-pos some_n some_l);
-      across = cone_step x.times on.s on.t (pos n) (pos l) (shift v p) (shift v q) (shift v m) d.x e.x v.w p.w q.w (shift_mix v x) (away_shift away) (away_shift away');
-      above = cone_step x.times on.s on.t (pos n) (pos l) (rise v p) (rise v q) (rise v m) d.y e.y v.w p.w q.w (rise_mix v x) (away_rise away) (away_rise away');
+      across = cone_step x.times on.s on.t (pos n) (pos l) (shift v p) (shift v q) (shift v m) d.x e.x v.w p.w q.w (shift_mix v x)
+          (away_shift away) (away_shift away');
+      above = cone_step x.times on.s on.t (pos n) (pos l) (rise v p) (rise v q) (rise v m) d.y e.y v.w p.w q.w (rise_mix v x)
+          (away_rise away) (away_rise away');
     }

@@ -33,7 +33,9 @@ product_bounded c z size most h k l m =
     ⊞ at_most (minus (var 2)) (var 0) h ⊠ at_most (minus (var 3)) (var 1) l
     ⊞ at_most (var 0) (var 2) k ⊠ at_most (var 1) (var 3) m) refl
 
-stays_positive : (at_p at_v p_w v_w u v across above n size_u size_v : ℤ) → pos 0 ≤ℤ n → pos 0 <ℤ at_v → pos 0 <ℤ p_w → pos 0 <ℤ v_w → at_p *ℤ v_w ≡ (at_v *ℤ p_w) +ℤ ((u *ℤ across) +ℤ (v *ℤ above)) → neg_ℤ (size_u *ℤ (v_w *ℤ p_w)) ≤ℤ (u *ℤ (n *ℤ across)) → neg_ℤ (size_v *ℤ (v_w *ℤ p_w)) ≤ℤ (v *ℤ (n *ℤ above)) → ((size_u +ℤ size_v) *ℤ v_w) <ℤ n → pos 0 <ℤ at_p
+stays_positive : (at_p at_v p_w v_w u v across above n size_u size_v : ℤ) → pos 0 ≤ℤ n → pos 0 <ℤ at_v → pos 0 <ℤ p_w → pos 0 <ℤ v_w
+    → at_p *ℤ v_w ≡ (at_v *ℤ p_w) +ℤ ((u *ℤ across) +ℤ (v *ℤ above)) → neg_ℤ (size_u *ℤ (v_w *ℤ p_w)) ≤ℤ (u *ℤ (n *ℤ across))
+    → neg_ℤ (size_v *ℤ (v_w *ℤ p_w)) ≤ℤ (v *ℤ (n *ℤ above)) → ((size_u +ℤ size_v) *ℤ v_w) <ℤ n → pos 0 <ℤ at_p
 stays_positive at_p at_v p_w v_w u v across above n size_u size_v hn hv hp hw e hx hy small =
     let n' = var 8 in
     let wide = var 3 ⊗ var 2 in
@@ -79,7 +81,8 @@ positive_near f v p n h far near =
     (within_reach (size_of f.x) (size_of f.y) (size_of v.w) v.w n (size_is v.w).below far)
 
 -- what is near is convex
-near_side : (v_w s t k p_w q_w m_w x y z n : ℤ) → pos 0 <ℤ k → pos 0 ≤ℤ s → pos 0 ≤ℤ t → k *ℤ m_w ≡ (s *ℤ p_w) +ℤ (t *ℤ q_w) → k *ℤ z ≡ (s *ℤ x) +ℤ (t *ℤ y) → (n *ℤ x) ≤ℤ (v_w *ℤ p_w) → (n *ℤ y) ≤ℤ (v_w *ℤ q_w) → (n *ℤ z) ≤ℤ (v_w *ℤ m_w)
+near_side : (v_w s t k p_w q_w m_w x y z n : ℤ) → pos 0 <ℤ k → pos 0 ≤ℤ s → pos 0 ≤ℤ t → k *ℤ m_w ≡ (s *ℤ p_w) +ℤ (t *ℤ q_w)
+    → k *ℤ z ≡ (s *ℤ x) +ℤ (t *ℤ y) → (n *ℤ x) ≤ℤ (v_w *ℤ p_w) → (n *ℤ y) ≤ℤ (v_w *ℤ q_w) → (n *ℤ z) ≤ℤ (v_w *ℤ m_w)
 near_side v_w s t k p_w q_w m_w x y z n hk hs ht e f h l =
     at_most_by (var 10 ⊗ var 9) (var 0 ⊗ var 6) (v_w ∷ s ∷ t ∷ k ∷ p_w ∷ q_w ∷ m_w ∷ x ∷ y ∷ z ∷ n ∷ [])
     (λ denied. denied ⊠ positive (var 3) hk
@@ -88,7 +91,8 @@ near_side v_w s t k p_w q_w m_w x y z n hk hs ht e f h l =
     ⊞ scaled (var 0) (same (var 3 ⊗ var 6) (var 1 ⊗ var 4 ⊕ var 2 ⊗ var 5) e)
     ⊞ scaled (minus (var 10)) (same (var 3 ⊗ var 9) (var 1 ⊗ var 7 ⊕ var 2 ⊗ var 8) f)) refl
 
-near_side' : (v_w s t k p_w q_w m_w x y z n : ℤ) → pos 0 <ℤ k → pos 0 ≤ℤ s → pos 0 ≤ℤ t → k *ℤ m_w ≡ (s *ℤ p_w) +ℤ (t *ℤ q_w) → k *ℤ z ≡ (s *ℤ x) +ℤ (t *ℤ y) → neg_ℤ (v_w *ℤ p_w) ≤ℤ (n *ℤ x) → neg_ℤ (v_w *ℤ q_w) ≤ℤ (n *ℤ y) → neg_ℤ (v_w *ℤ m_w) ≤ℤ (n *ℤ z)
+near_side' : (v_w s t k p_w q_w m_w x y z n : ℤ) → pos 0 <ℤ k → pos 0 ≤ℤ s → pos 0 ≤ℤ t → k *ℤ m_w ≡ (s *ℤ p_w) +ℤ (t *ℤ q_w)
+    → k *ℤ z ≡ (s *ℤ x) +ℤ (t *ℤ y) → neg_ℤ (v_w *ℤ p_w) ≤ℤ (n *ℤ x) → neg_ℤ (v_w *ℤ q_w) ≤ℤ (n *ℤ y) → neg_ℤ (v_w *ℤ m_w) ≤ℤ (n *ℤ z)
 near_side' v_w s t k p_w q_w m_w x y z n hk hs ht e f h l =
     at_most_by (minus (var 0 ⊗ var 6)) (var 10 ⊗ var 9) (v_w ∷ s ∷ t ∷ k ∷ p_w ∷ q_w ∷ m_w ∷ x ∷ y ∷ z ∷ n ∷ [])
     (λ denied. denied ⊠ positive (var 3) hk
@@ -97,11 +101,13 @@ near_side' v_w s t k p_w q_w m_w x y z n hk hs ht e f h l =
     ⊞ scaled (var 0) (same (var 3 ⊗ var 6) (var 1 ⊗ var 4 ⊕ var 2 ⊗ var 5) e)
     ⊞ scaled (var 10) (same (var 3 ⊗ var 9) (var 1 ⊗ var 7 ⊕ var 2 ⊗ var 8) f)) refl
 
-step_mix : {step : Point → Point → ℤ} {to_end from_end : Point → Affine} → AreStepsBy step to_end from_end → (v : Point) {p q m : Point} {s t : ℤ} (mix : IsMix p q m s t) → mix.times *ℤ step v m ≡ (s *ℤ step v p) +ℤ (t *ℤ step v q)
+step_mix : {step : Point → Point → ℤ} {to_end from_end : Point → Affine} → AreStepsBy step to_end from_end
+    → (v : Point) {p q m : Point} {s t : ℤ} (mix : IsMix p q m s t) → mix.times *ℤ step v m ≡ (s *ℤ step v p) +ℤ (t *ℤ step v q)
 step_mix {step} {to_end} {from_end} st v {p} {q} {m} {s} {t} mix =
     sym (ap (λ z. mix.times *ℤ z) (st.ends v m)) ∙ affine_mix (to_end v) mix ∙ (λ i. (s *ℤ st.ends v p i) +ℤ (t *ℤ st.ends v q i))
 
-pub shift_mix : (v : Point) {p q m : Point} {s t : ℤ} (mix : IsMix p q m s t) → mix.times *ℤ shift v m ≡ (s *ℤ shift v p) +ℤ (t *ℤ shift v q)
+pub shift_mix : (v : Point) {p q m : Point} {s t : ℤ} (mix : IsMix p q m s t)
+    → mix.times *ℤ shift v m ≡ (s *ℤ shift v p) +ℤ (t *ℤ shift v q)
 shift_mix = step_mix shift_steps
 
 pub rise_mix : (v : Point) {p q m : Point} {s t : ℤ} (mix : IsMix p q m s t) → mix.times *ℤ rise v m ≡ (s *ℤ rise v p) +ℤ (t *ℤ rise v q)
@@ -113,8 +119,12 @@ near_mix {v} {p} {q} {m} {n} h k on =
     let e = shift_mix v x in
     let f = rise_mix v x in
     record {
-      left = near_side' v.w on.s on.t x.times p.w q.w m.w (shift v p) (shift v q) (shift v m) (pos n) x.some x.first x.second x.mass e h.left k.left;
-      right = near_side v.w on.s on.t x.times p.w q.w m.w (shift v p) (shift v q) (shift v m) (pos n) x.some x.first x.second x.mass e h.right k.right;
-      bottom = near_side' v.w on.s on.t x.times p.w q.w m.w (rise v p) (rise v q) (rise v m) (pos n) x.some x.first x.second x.mass f h.bottom k.bottom;
-      top = near_side v.w on.s on.t x.times p.w q.w m.w (rise v p) (rise v q) (rise v m) (pos n) x.some x.first x.second x.mass f h.top k.top;
+      left = near_side' v.w on.s on.t x.times p.w q.w m.w (shift v p) (shift v q) (shift v m)
+          (pos n) x.some x.first x.second x.mass e h.left k.left;
+      right = near_side v.w on.s on.t x.times p.w q.w m.w (shift v p) (shift v q) (shift v m)
+          (pos n) x.some x.first x.second x.mass e h.right k.right;
+      bottom = near_side' v.w on.s on.t x.times p.w q.w m.w (rise v p) (rise v q) (rise v m)
+          (pos n) x.some x.first x.second x.mass f h.bottom k.bottom;
+      top = near_side v.w on.s on.t x.times p.w q.w m.w (rise v p) (rise v q) (rise v m)
+          (pos n) x.some x.first x.second x.mass f h.top k.top;
     }

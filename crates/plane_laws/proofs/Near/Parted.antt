@@ -22,7 +22,8 @@ pub record Affine : Type 0 where
 abbrev pub at_point : Affine → Point → ℤ
 at_point f p = ((f.x *ℤ p.x) +ℤ (f.y *ℤ p.y)) +ℤ (f.w *ℤ p.w)
 
-pub affine_mix : (f : Affine) {a b m : Point} {s t : ℤ} (mix : IsMix a b m s t) → mix.times *ℤ at_point f m ≡ (s *ℤ at_point f a) +ℤ (t *ℤ at_point f b)
+pub affine_mix : (f : Affine) {a b m : Point} {s t : ℤ} (mix : IsMix a b m s t)
+    → mix.times *ℤ at_point f m ≡ (s *ℤ at_point f a) +ℤ (t *ℤ at_point f b)
 affine_mix f {a} {b} {m} {s} {t} mix =
     let pa = point_at 6 in
     let pb = point_at 9 in
@@ -37,7 +38,8 @@ affine_mix f {a} {b} {m} {s} {t} mix =
 
 -- a mix is on no side on which neither end is
 pub affine_on : (f : Affine) {a b m : Point} → IsOnSegment a b m → at_point f a ≤ℤ pos 0 → at_point f b ≤ℤ pos 0 → at_point f m ≤ℤ pos 0
-affine_on f {a} {b} {m} on ha hb = go (at_point f a) (at_point f b) (at_point f m) on.mix.times on.s on.t on.mix.some on.mix.first on.mix.second (affine_mix f on.mix) ha hb
+affine_on f {a} {b} {m} on ha hb = go (at_point f a) (at_point f b) (at_point f m) on.mix.times on.s on.t on.mix.some on.mix.first
+    on.mix.second (affine_mix f on.mix) ha hb
   where
     go : (u v z k s t : ℤ) → pos 0 <ℤ k → pos 0 ≤ℤ s → pos 0 ≤ℤ t → k *ℤ z ≡ (s *ℤ u) +ℤ (t *ℤ v) → u ≤ℤ pos 0 → v ≤ℤ pos 0 → z ≤ℤ pos 0
     go u v z k s t hk hs ht e hu hv =
@@ -90,10 +92,12 @@ pub record AreStepsBy (step : Point → Point → ℤ) (to_end from_end : Point 
   pub begins : (c p : Point) → at_point (from_end c) p ≡ step p c
   pub turned : (c p : Point) → step p c ≡ neg_ℤ (step c p)
 
-step_parted : {step : Point → Point → ℤ} {to_end from_end : Point → Affine} → AreStepsBy step to_end from_end → (a b v : Point) → ¬ IsSameWay (step a v) (step v b) → AreParted a b v
+step_parted : {step : Point → Point → ℤ} {to_end from_end : Point → Affine} → AreStepsBy step to_end from_end → (a b v : Point)
+    → ¬ IsSameWay (step a v) (step v b) → AreParted a b v
 step_parted {step} {to_end} {from_end} st a b v apart = by_sign (step a v)
     (λ h. by_lt_z (pos 0) (step v b) (λ k. before h k) (λ k. absurd (apart (inr (<ℤ_weaken h, k)))))
-    (λ e. by_lt_z (step v b) (pos 0) (λ k. absurd (apart (inr (omega (arith, linear, e), <ℤ_weaken k)))) (λ k. absurd (apart (inl (omega (arith, linear, e), k)))))
+    (λ e. by_lt_z (step v b) (pos 0) (λ k. absurd (apart (inr (omega (arith, linear, e), <ℤ_weaken k))))
+    (λ k. absurd (apart (inl (omega (arith, linear, e), k)))))
     (λ h. by_lt_z (step v b) (pos 0) (λ k. behind h k) (λ k. absurd (apart (inl (<ℤ_weaken h, k)))))
   where
     none : (z : ℤ) → z ≡ neg_ℤ z → z ≡ pos 0
@@ -132,26 +136,34 @@ step_parted {step} {to_end} {from_end} st a b v apart = by_sign (step a v)
 pub shift_steps : AreStepsBy shift (λ c. record { x = c.w; y = pos 0; w = neg_ℤ c.x }) (λ c. record { x = neg_ℤ c.w; y = pos 0; w = c.x })
 unfolding shift
 shift_steps = record {
-  ends = λ c p. identity ((var 2 ⊗ var 3 ⊕ num (pos 0) ⊗ var 4) ⊕ minus (var 0) ⊗ var 5) (var 3 ⊗ var 2 ⊖ var 0 ⊗ var 5) (c then p then []) refl;
-  begins = λ c p. identity ((minus (var 2) ⊗ var 3 ⊕ num (pos 0) ⊗ var 4) ⊕ var 0 ⊗ var 5) (var 0 ⊗ var 5 ⊖ var 3 ⊗ var 2) (c then p then []) refl;
+  ends = λ c p. identity ((var 2 ⊗ var 3 ⊕ num (pos 0) ⊗ var 4) ⊕ minus (var 0) ⊗ var 5) (var 3 ⊗ var 2 ⊖ var 0 ⊗ var 5)
+      (c then p then []) refl;
+  begins = λ c p. identity ((minus (var 2) ⊗ var 3 ⊕ num (pos 0) ⊗ var 4) ⊕ var 0 ⊗ var 5) (var 0 ⊗ var 5 ⊖ var 3 ⊗ var 2)
+      (c then p then []) refl;
   turned = λ c p. omega (arith, linear);
 }
 
 pub rise_steps : AreStepsBy rise (λ c. record { x = pos 0; y = c.w; w = neg_ℤ c.y }) (λ c. record { x = pos 0; y = neg_ℤ c.w; w = c.y })
 unfolding rise
 rise_steps = record {
-  ends = λ c p. identity ((num (pos 0) ⊗ var 3 ⊕ var 2 ⊗ var 4) ⊕ minus (var 1) ⊗ var 5) (var 4 ⊗ var 2 ⊖ var 1 ⊗ var 5) (c then p then []) refl;
-  begins = λ c p. identity ((num (pos 0) ⊗ var 3 ⊕ minus (var 2) ⊗ var 4) ⊕ var 1 ⊗ var 5) (var 1 ⊗ var 5 ⊖ var 4 ⊗ var 2) (c then p then []) refl;
+  ends = λ c p. identity ((num (pos 0) ⊗ var 3 ⊕ var 2 ⊗ var 4) ⊕ minus (var 1) ⊗ var 5) (var 4 ⊗ var 2 ⊖ var 1 ⊗ var 5)
+      (c then p then []) refl;
+  begins = λ c p. identity ((num (pos 0) ⊗ var 3 ⊕ minus (var 2) ⊗ var 4) ⊕ var 1 ⊗ var 5) (var 1 ⊗ var 5 ⊖ var 4 ⊗ var 2)
+      (c then p then []) refl;
   turned = λ c p. omega (arith, linear);
 }
 
 pub off_parted : (a b v : Point) → is_on_segment a b v ≡ false → AreParted a b v
-off_parted a b v off = first (and_cases (int_eq (turn a b v) (pos 0)) (is_same_way (shift a v) (shift v b) && is_same_way (rise a v) (rise v b)) off)
+off_parted a b v off = first
+    (and_cases (int_eq (turn a b v) (pos 0)) (is_same_way (shift a v) (shift v b) && is_same_way (rise a v) (rise v b)) off)
   where
     second : (is_same_way (shift a v) (shift v b) ≡ false) ⊎ (is_same_way (rise a v) (rise v b) ≡ false) → AreParted a b v
-    second (inl h) = step_parted shift_steps a b v (not_from_Decides (is_same_way (shift a v) (shift v b)) (Decides-is_same_way (shift a v) (shift v b)) h)
-    second (inr h) = step_parted rise_steps a b v (not_from_Decides (is_same_way (rise a v) (rise v b)) (Decides-is_same_way (rise a v) (rise v b)) h)
+    second (inl h) = step_parted shift_steps a b v
+        (not_from_Decides (is_same_way (shift a v) (shift v b)) (Decides-is_same_way (shift a v) (shift v b)) h)
+    second (inr h) = step_parted rise_steps a b v
+        (not_from_Decides (is_same_way (rise a v) (rise v b)) (Decides-is_same_way (rise a v) (rise v b)) h)
 
-    first : (int_eq (turn a b v) (pos 0) ≡ false) ⊎ ((is_same_way (shift a v) (shift v b) && is_same_way (rise a v) (rise v b)) ≡ false) → AreParted a b v
+    first : (int_eq (turn a b v) (pos 0) ≡ false) ⊎ ((is_same_way (shift a v) (shift v b) && is_same_way (rise a v) (rise v b)) ≡ false)
+        → AreParted a b v
     first (inl h) = turn_parted a b v (not_from_Decides (int_eq (turn a b v) (pos 0)) (Decides-int_eq (turn a b v) (pos 0)) h)
     first (inr h) = second (and_cases (is_same_way (shift a v) (shift v b)) (is_same_way (rise a v) (rise v b)) h)

@@ -46,7 +46,8 @@ pub end_on_segment : (a b : Point) → IsOnSegment a b b
 end_on_segment a b = segment_flip (start_on_segment b a)
 
 -- ---- masses and weights
-mass_to_weight : (k s t ax aw bx bw px pw : ℤ) → k *ℤ px ≡ s *ℤ ax +ℤ t *ℤ bx → k *ℤ pw ≡ s *ℤ aw +ℤ t *ℤ bw → (px *ℤ (s *ℤ aw +ℤ t *ℤ bw)) *ℤ (aw *ℤ bw) ≡ pw *ℤ (((s *ℤ aw) *ℤ ax) *ℤ bw +ℤ ((t *ℤ bw) *ℤ bx) *ℤ aw)
+mass_to_weight : (k s t ax aw bx bw px pw : ℤ) → k *ℤ px ≡ s *ℤ ax +ℤ t *ℤ bx → k *ℤ pw ≡ s *ℤ aw +ℤ t *ℤ bw
+    → (px *ℤ (s *ℤ aw +ℤ t *ℤ bw)) *ℤ (aw *ℤ bw) ≡ pw *ℤ (((s *ℤ aw) *ℤ ax) *ℤ bw +ℤ ((t *ℤ bw) *ℤ bx) *ℤ aw)
 mass_to_weight k s t ax aw bx bw px pw h e =
     let vs = k ∷ s ∷ t ∷ ax ∷ aw ∷ bx ∷ bw ∷ px ∷ pw ∷ [] in
     let sum_x = var 1 ⊗ var 3 ⊕ var 2 ⊗ var 5 in
@@ -64,7 +65,8 @@ mix_is_mean {a} {b} {p} {s} {t} m = record {
   above = mass_to_weight m.times s t a.y a.w b.y b.w p.y p.w m.above m.mass;
 }
 
-weight_to_mass : (s t ax aw bx bw px pw : ℤ) → (px *ℤ (s +ℤ t)) *ℤ (aw *ℤ bw) ≡ pw *ℤ ((s *ℤ ax) *ℤ bw +ℤ (t *ℤ bx) *ℤ aw) → ((s +ℤ t) *ℤ (aw *ℤ bw)) *ℤ px ≡ ((s *ℤ bw) *ℤ pw) *ℤ ax +ℤ ((t *ℤ aw) *ℤ pw) *ℤ bx
+weight_to_mass : (s t ax aw bx bw px pw : ℤ) → (px *ℤ (s +ℤ t)) *ℤ (aw *ℤ bw) ≡ pw *ℤ ((s *ℤ ax) *ℤ bw +ℤ (t *ℤ bx) *ℤ aw)
+    → ((s +ℤ t) *ℤ (aw *ℤ bw)) *ℤ px ≡ ((s *ℤ bw) *ℤ pw) *ℤ ax +ℤ ((t *ℤ aw) *ℤ pw) *ℤ bx
 weight_to_mass s t ax aw bx bw px pw h =
     let vs = s ∷ t ∷ ax ∷ aw ∷ bx ∷ bw ∷ px ∷ pw ∷ [] in
     same_from ((var 0 ⊕ var 1) ⊗ (var 3 ⊗ var 5) ⊗ var 6) (var 0 ⊗ var 5 ⊗ var 7 ⊗ var 2 ⊕ var 1 ⊗ var 3 ⊗ var 7 ⊗ var 4) vs
@@ -123,14 +125,16 @@ mix_same_mix {a} {b} {p} {p'} {s} {t} h m = record {
   mass = move_mix m.times p.w p.w s a.w t b.w p'.w p'.w m.mass (*ℤ_comm p.w p'.w);
 }
 
-pub segment_same : {a a' b b' p p' : Point} → IsSamePoint a a' → IsSamePoint b b' → IsSamePoint p p' → IsOnSegment a b p → IsOnSegment a' b' p'
+pub segment_same : {a a' b b' p p' : Point} → IsSamePoint a a' → IsSamePoint b b' → IsSamePoint p p' → IsOnSegment a b p
+    → IsOnSegment a' b' p'
 segment_same {a} {a'} {b} {b'} {p} {p'} ha hb hp on = record {
   s = ((on.s *ℤ a.w) *ℤ b'.w) *ℤ p'.w;
   t = ((on.t *ℤ a'.w) *ℤ b.w) *ℤ p'.w;
   mix = mix_same_mix hp (mix_flip (mix_same_first hb (mix_flip (mix_same_first ha on.mix))));
 }
 
-pub between_same : {a a' b b' p p' : Point} → IsSamePoint a a' → IsSamePoint b b' → IsSamePoint p p' → IsStrictlyBetween a b p → IsStrictlyBetween a' b' p'
+pub between_same : {a a' b b' p p' : Point} → IsSamePoint a a' → IsSamePoint b b' → IsSamePoint p p' → IsStrictlyBetween a b p
+    → IsStrictlyBetween a' b' p'
 between_same {a} {a'} {b} {b'} {p} {p'} ha hb hp on = record {
   s = ((on.s *ℤ a.w) *ℤ b'.w) *ℤ p'.w;
   t = ((on.t *ℤ a'.w) *ℤ b.w) *ℤ p'.w;
@@ -156,14 +160,16 @@ three_cycle {a} {b} {c} {p} {s} {t} {u} m = record {
   mass = m.mass ∙ three_turned (s *ℤ a.w) (t *ℤ b.w) (u *ℤ c.w);
 }
 
-move_first_of_three : (k p s a v t b u c a' v' : ℤ) → k *ℤ p ≡ (s *ℤ a +ℤ t *ℤ b) +ℤ u *ℤ c → a *ℤ v' ≡ a' *ℤ v → (k *ℤ v') *ℤ p ≡ ((s *ℤ v) *ℤ a' +ℤ (t *ℤ v') *ℤ b) +ℤ (u *ℤ v') *ℤ c
+move_first_of_three : (k p s a v t b u c a' v' : ℤ) → k *ℤ p ≡ (s *ℤ a +ℤ t *ℤ b) +ℤ u *ℤ c → a *ℤ v' ≡ a' *ℤ v
+    → (k *ℤ v') *ℤ p ≡ ((s *ℤ v) *ℤ a' +ℤ (t *ℤ v') *ℤ b) +ℤ (u *ℤ v') *ℤ c
 move_first_of_three k p s a v t b u c a' v' h e =
     let vs = k ∷ p ∷ s ∷ a ∷ v ∷ t ∷ b ∷ u ∷ c ∷ a' ∷ v' ∷ [] in
     same_from (var 0 ⊗ var 10 ⊗ var 1) (var 2 ⊗ var 4 ⊗ var 9 ⊕ var 5 ⊗ var 10 ⊗ var 6 ⊕ var 7 ⊗ var 10 ⊗ var 8) vs
     (scaled (var 10) (same (var 0 ⊗ var 1) (var 2 ⊗ var 3 ⊕ var 5 ⊗ var 6 ⊕ var 7 ⊗ var 8) h)
     ⊞ scaled (var 2) (same (var 3 ⊗ var 10) (var 9 ⊗ var 4) e)) refl
 
-pub three_same_first : {a a' b c p : Point} {s t u : ℤ} → IsSamePoint a a' → IsMixOfThree a b c p s t u → IsMixOfThree a' b c p (s *ℤ a.w) (t *ℤ a'.w) (u *ℤ a'.w)
+pub three_same_first : {a a' b c p : Point} {s t u : ℤ} → IsSamePoint a a' → IsMixOfThree a b c p s t u
+    → IsMixOfThree a' b c p (s *ℤ a.w) (t *ℤ a'.w) (u *ℤ a'.w)
 three_same_first {a} {a'} {b} {c} {p} {s} {t} {u} h m = record {
   first = nonneg-*-nonneg m.first (<ℤ_weaken a.heavy);
   second = nonneg-*-nonneg m.second (<ℤ_weaken a'.heavy);
@@ -175,14 +181,16 @@ three_same_first {a} {a'} {b} {c} {p} {s} {t} {u} h m = record {
   mass = move_first_of_three m.times p.w s a.w a.w t b.w u c.w a'.w a'.w m.mass (*ℤ_comm a.w a'.w);
 }
 
-move_mix_of_three : (k p v s a t b u c p' v' : ℤ) → k *ℤ p ≡ (s *ℤ a +ℤ t *ℤ b) +ℤ u *ℤ c → p *ℤ v' ≡ p' *ℤ v → (k *ℤ v) *ℤ p' ≡ ((s *ℤ v') *ℤ a +ℤ (t *ℤ v') *ℤ b) +ℤ (u *ℤ v') *ℤ c
+move_mix_of_three : (k p v s a t b u c p' v' : ℤ) → k *ℤ p ≡ (s *ℤ a +ℤ t *ℤ b) +ℤ u *ℤ c → p *ℤ v' ≡ p' *ℤ v
+    → (k *ℤ v) *ℤ p' ≡ ((s *ℤ v') *ℤ a +ℤ (t *ℤ v') *ℤ b) +ℤ (u *ℤ v') *ℤ c
 move_mix_of_three k p v s a t b u c p' v' h e =
     let vs = k ∷ p ∷ v ∷ s ∷ a ∷ t ∷ b ∷ u ∷ c ∷ p' ∷ v' ∷ [] in
     same_from (var 0 ⊗ var 2 ⊗ var 9) (var 3 ⊗ var 10 ⊗ var 4 ⊕ var 5 ⊗ var 10 ⊗ var 6 ⊕ var 7 ⊗ var 10 ⊗ var 8) vs
     (scaled (var 10) (same (var 0 ⊗ var 1) (var 3 ⊗ var 4 ⊕ var 5 ⊗ var 6 ⊕ var 7 ⊗ var 8) h)
     ⊞ scaled (minus (var 0)) (same (var 1 ⊗ var 10) (var 9 ⊗ var 2) e)) refl
 
-pub three_same_mix : {a b c p p' : Point} {s t u : ℤ} → IsSamePoint p p' → IsMixOfThree a b c p s t u → IsMixOfThree a b c p' (s *ℤ p'.w) (t *ℤ p'.w) (u *ℤ p'.w)
+pub three_same_mix : {a b c p p' : Point} {s t u : ℤ} → IsSamePoint p p' → IsMixOfThree a b c p s t u
+    → IsMixOfThree a b c p' (s *ℤ p'.w) (t *ℤ p'.w) (u *ℤ p'.w)
 three_same_mix {a} {b} {c} {p} {p'} {s} {t} {u} h m = record {
   first = nonneg-*-nonneg m.first (<ℤ_weaken p'.heavy);
   second = nonneg-*-nonneg m.second (<ℤ_weaken p'.heavy);
@@ -207,7 +215,8 @@ record MixOfSame (a' b' c' p' : Point) (s t u : ℤ) : Type 0 where
 four : {s v w x y : ℤ} → pos 0 <ℤ v → pos 0 <ℤ w → pos 0 <ℤ x → pos 0 <ℤ y → pos 0 <ℤ s → pos 0 <ℤ ((((s *ℤ v) *ℤ w) *ℤ x) *ℤ y)
 four hv hw hx hy hs = pos-*-pos (pos-*-pos (pos-*-pos (pos-*-pos hs hv) hw) hx) hy
 
-mix_of_same : {a a' b b' c c' p p' : Point} {s t u : ℤ} → IsSamePoint a a' → IsSamePoint b b' → IsSamePoint c c' → IsSamePoint p p' → IsMixOfThree a b c p s t u → MixOfSame a' b' c' p' s t u
+mix_of_same : {a a' b b' c c' p p' : Point} {s t u : ℤ} → IsSamePoint a a' → IsSamePoint b b' → IsSamePoint c c' → IsSamePoint p p'
+    → IsMixOfThree a b c p s t u → MixOfSame a' b' c' p' s t u
 mix_of_same {a} {a'} {b} {b'} {c} {c'} {p} {p'} {s} {t} {u} ha hb hc hp m = record {
   s' = (((s *ℤ a.w) *ℤ b'.w) *ℤ c'.w) *ℤ p'.w;
   t' = (((t *ℤ a'.w) *ℤ b.w) *ℤ c'.w) *ℤ p'.w;
@@ -218,10 +227,12 @@ mix_of_same {a} {a'} {b} {b'} {c} {c'} {p} {p'} {s} {t} {u} ha hb hc hp m = reco
   some_third = four a'.heavy b'.heavy c.heavy p'.heavy;
 }
 
-pub triangle_same : {a a' b b' c c' p p' : Point} → IsSamePoint a a' → IsSamePoint b b' → IsSamePoint c c' → IsSamePoint p p' → IsInTriangle a b c p → IsInTriangle a' b' c' p'
+pub triangle_same : {a a' b b' c c' p p' : Point} → IsSamePoint a a' → IsSamePoint b b' → IsSamePoint c c' → IsSamePoint p p'
+    → IsInTriangle a b c p → IsInTriangle a' b' c' p'
 triangle_same ha hb hc hp on = let m = mix_of_same ha hb hc hp on.mix in record { s = m.s'; t = m.t'; u = m.u'; mix = m.mix }
 
-pub strict_triangle_same : {a a' b b' c c' p p' : Point} → IsSamePoint a a' → IsSamePoint b b' → IsSamePoint c c' → IsSamePoint p p' → IsStrictlyInTriangle a b c p → IsStrictlyInTriangle a' b' c' p'
+pub strict_triangle_same : {a a' b b' c c' p p' : Point} → IsSamePoint a a' → IsSamePoint b b' → IsSamePoint c c' → IsSamePoint p p'
+    → IsStrictlyInTriangle a b c p → IsStrictlyInTriangle a' b' c' p'
 strict_triangle_same {a} {a'} {b} {b'} {c} {c'} ha hb hc hp on = let m = mix_of_same ha hb hc hp on.mix in record {
   s = m.s';
   t = m.t';

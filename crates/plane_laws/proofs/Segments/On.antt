@@ -45,14 +45,16 @@ mix_turn {a} {b} {p} {s} {t} m =
     ⊞ scaled (pa.x ⊗ pb.y ⊖ pa.y ⊗ pb.x) (same (var 0 ⊗ pp.w) (var 1 ⊗ pa.w ⊕ var 2 ⊗ pb.w) m.mass)) refl)
 
 -- one coordinate of the ends and of the mix: k steps from the start are t steps of the whole way
-step_from_start : (k s t a v b w p z : ℤ) → k *ℤ p ≡ s *ℤ a +ℤ t *ℤ b → k *ℤ z ≡ s *ℤ v +ℤ t *ℤ w → k *ℤ (p *ℤ v -ℤ a *ℤ z) ≡ t *ℤ (b *ℤ v -ℤ a *ℤ w)
+step_from_start : (k s t a v b w p z : ℤ) → k *ℤ p ≡ s *ℤ a +ℤ t *ℤ b → k *ℤ z ≡ s *ℤ v +ℤ t *ℤ w
+    → k *ℤ (p *ℤ v -ℤ a *ℤ z) ≡ t *ℤ (b *ℤ v -ℤ a *ℤ w)
 step_from_start k s t a v b w p z h e =
     let vs = k ∷ s ∷ t ∷ a ∷ v ∷ b ∷ w ∷ p ∷ z ∷ [] in
     same_from (var 0 ⊗ (var 7 ⊗ var 4 ⊖ var 3 ⊗ var 8)) (var 2 ⊗ (var 5 ⊗ var 4 ⊖ var 3 ⊗ var 6)) vs
     (scaled (var 4) (same (var 0 ⊗ var 7) (var 1 ⊗ var 3 ⊕ var 2 ⊗ var 5) h)
     ⊞ scaled (minus (var 3)) (same (var 0 ⊗ var 8) (var 1 ⊗ var 4 ⊕ var 2 ⊗ var 6) e)) refl
 
-step_to_end : (k s t a v b w p z : ℤ) → k *ℤ p ≡ s *ℤ a +ℤ t *ℤ b → k *ℤ z ≡ s *ℤ v +ℤ t *ℤ w → k *ℤ (b *ℤ z -ℤ p *ℤ w) ≡ s *ℤ (b *ℤ v -ℤ a *ℤ w)
+step_to_end : (k s t a v b w p z : ℤ) → k *ℤ p ≡ s *ℤ a +ℤ t *ℤ b → k *ℤ z ≡ s *ℤ v +ℤ t *ℤ w
+    → k *ℤ (b *ℤ z -ℤ p *ℤ w) ≡ s *ℤ (b *ℤ v -ℤ a *ℤ w)
 step_to_end k s t a v b w p z h e =
     let vs = k ∷ s ∷ t ∷ a ∷ v ∷ b ∷ w ∷ p ∷ z ∷ [] in
     same_from (var 0 ⊗ (var 5 ⊗ var 8 ⊖ var 7 ⊗ var 6)) (var 1 ⊗ (var 5 ⊗ var 4 ⊖ var 3 ⊗ var 6)) vs
@@ -179,14 +181,16 @@ no_step_forward {a} {b} {p} {d} {u} {v} st e hu hv =
 no_step : {a b p : Point} {d u v : ℤ} → AreSteps a b p d u v → d ≡ pos 0 → IsSameWay u v → u ≡ pos 0
 no_step st e (inl h) = no_step_forward st e h.0 h.1
 no_step {d} {u} {v} st e (inr h) =
-    let turned : neg_ℤ u ≡ pos 0 = no_step_forward (turned_steps st) (omega (arith, linear, e)) (omega (arith, linear, h.0)) (omega (arith, linear, h.1)) in
+    let turned : neg_ℤ u ≡ pos 0 = no_step_forward (turned_steps st) (omega (arith, linear, e)) (omega (arith, linear, h.0))
+    (omega (arith, linear, h.1)) in
     omega (arith, linear, turned)
 
 pub same_from_steps : (a p : Point) → shift a p ≡ pos 0 → rise a p ≡ pos 0 → IsSamePoint a p
 unfolding shift rise
 same_from_steps a p e f = record { across = omega (arith, linear, e); above = omega (arith, linear, f) }
 
-pub on_from_steps : (a b p : Point) → turn a b p ≡ pos 0 → IsSameWay (shift a p) (shift p b) → IsSameWay (rise a p) (rise p b) → IsOnSegment a b p
+pub on_from_steps : (a b p : Point) → turn a b p ≡ pos 0 → IsSameWay (shift a p) (shift p b) → IsSameWay (rise a p) (rise p b)
+    → IsOnSegment a b p
 on_from_steps a b p e across above =
     let shifts = shifts_are_steps a b p e in
     let rises = rises_are_steps a b p e in
@@ -214,12 +218,14 @@ Decides-is_on_segment a b p =
         let m = on.mix in (
           mix_turn m,
           (
-            parts_of_way m.times on.s on.t (shift a b) (shift a p) (shift p b) m.some m.first m.second (mix_shift_start m) (mix_shift_end m),
+            parts_of_way m.times on.s on.t (shift a b) (shift a p) (shift p b) m.some m.first m.second (mix_shift_start m)
+                (mix_shift_end m),
             parts_of_way m.times on.s on.t (rise a b) (rise a p) (rise p b) m.some m.first m.second (mix_rise_start m) (mix_rise_end m),
           ),
         )
 
-pub on_test_same : {a a' b b' p p' : Point} → IsSamePoint a a' → IsSamePoint b b' → IsSamePoint p p' → is_on_segment a b p ≡ is_on_segment a' b' p'
+pub on_test_same : {a a' b b' p p' : Point} → IsSamePoint a a' → IsSamePoint b b' → IsSamePoint p p'
+    → is_on_segment a b p ≡ is_on_segment a' b' p'
 on_test_same {a} {a'} {b} {b'} {p} {p'} ha hb hp =
     same_from_decides (is_on_segment a b p) (is_on_segment a' b' p') (Decides-is_on_segment a b p)
     (Decides-like (is_on_segment a' b' p') (segment_same (same_sym ha) (same_sym hb) (same_sym hp)) (segment_same ha hb hp)
@@ -232,7 +238,8 @@ steps_of_same {a} {b} h = let across = h.across in let above = h.above in (omega
 
 pub on_segment_of_same : {a b p : Point} → IsSamePoint a b → IsOnSegment a b p → IsSamePoint a p
 on_segment_of_same {a} {b} {p} h on =
-    same_from_steps a p (none (shift a p) (shift a b) (steps_of_same h).0 (mix_shift_start on.mix)) (none (rise a p) (rise a b) (steps_of_same h).1 (mix_rise_start on.mix))
+    same_from_steps a p (none (shift a p) (shift a b) (steps_of_same h).0 (mix_shift_start on.mix))
+    (none (rise a p) (rise a b) (steps_of_same h).1 (mix_rise_start on.mix))
   where
     none : (u d : ℤ) → d ≡ pos 0 → on.mix.times *ℤ u ≡ on.t *ℤ d → u ≡ pos 0
     none u d e f = zero_factor on.mix.times u (pos_nonzero on.mix.some) (f ∙ ap (λ z. on.t *ℤ z) e ∙ *ℤ-zero on.t)

@@ -26,7 +26,8 @@ module _ (a b m n : Point) (s t u v : ℤ) (f : IsMix a b m s t) (g : IsMix a b 
       let vs = a.x ∷ a.w ∷ b.x ∷ b.w ∷ m.x ∷ m.w ∷ n.x ∷ n.w ∷ s ∷ t ∷ u ∷ v ∷ f.times ∷ g.times ∷ [] in
       let first = var 8 ⊗ var 0 ⊕ var 9 ⊗ var 2 in
       let second = var 10 ⊗ var 0 ⊕ var 11 ⊗ var 2 in
-      same_from ((var 12 ⊗ var 13) ⊗ (var 6 ⊗ var 5 ⊖ var 4 ⊗ var 7)) ((var 8 ⊗ var 11 ⊖ var 9 ⊗ var 10) ⊗ shift_p (var 0) (var 1) (var 2) (var 3)) vs
+      same_from ((var 12 ⊗ var 13) ⊗ (var 6 ⊗ var 5 ⊖ var 4 ⊗ var 7))
+      ((var 8 ⊗ var 11 ⊖ var 9 ⊗ var 10) ⊗ shift_p (var 0) (var 1) (var 2) (var 3)) vs
       (scaled (var 12 ⊗ var 5) (same (var 13 ⊗ var 6) second g.across)
       ⊞ scaled second (same (var 12 ⊗ var 5) (var 8 ⊗ var 1 ⊕ var 9 ⊗ var 3) f.mass)
       ⊞ scaled (minus (var 13 ⊗ var 7)) (same (var 12 ⊗ var 4) first f.across)
@@ -38,18 +39,22 @@ module _ (a b m n : Point) (s t u v : ℤ) (f : IsMix a b m s t) (g : IsMix a b 
       let vs = a.y ∷ a.w ∷ b.y ∷ b.w ∷ m.y ∷ m.w ∷ n.y ∷ n.w ∷ s ∷ t ∷ u ∷ v ∷ f.times ∷ g.times ∷ [] in
       let first = var 8 ⊗ var 0 ⊕ var 9 ⊗ var 2 in
       let second = var 10 ⊗ var 0 ⊕ var 11 ⊗ var 2 in
-      same_from ((var 12 ⊗ var 13) ⊗ (var 6 ⊗ var 5 ⊖ var 4 ⊗ var 7)) ((var 8 ⊗ var 11 ⊖ var 9 ⊗ var 10) ⊗ shift_p (var 0) (var 1) (var 2) (var 3)) vs
+      same_from ((var 12 ⊗ var 13) ⊗ (var 6 ⊗ var 5 ⊖ var 4 ⊗ var 7))
+      ((var 8 ⊗ var 11 ⊖ var 9 ⊗ var 10) ⊗ shift_p (var 0) (var 1) (var 2) (var 3)) vs
       (scaled (var 12 ⊗ var 5) (same (var 13 ⊗ var 6) second g.above)
       ⊞ scaled second (same (var 12 ⊗ var 5) (var 8 ⊗ var 1 ⊕ var 9 ⊗ var 3) f.mass)
       ⊞ scaled (minus (var 13 ⊗ var 7)) (same (var 12 ⊗ var 4) first f.above)
       ⊞ scaled (minus first) (same (var 13 ⊗ var 7) (var 10 ⊗ var 1 ⊕ var 11 ⊗ var 3) g.mass)) refl
 
-  ahead_along : (f.times *ℤ g.times) *ℤ (along a b n *ℤ m.w -ℤ along a b m *ℤ n.w) ≡ (s *ℤ v -ℤ t *ℤ u) *ℤ (a.w *ℤ (shift a b *ℤ shift a b +ℤ rise a b *ℤ rise a b))
+  ahead_along : (f.times *ℤ g.times) *ℤ (along a b n *ℤ m.w -ℤ along a b m *ℤ n.w) ≡ (s *ℤ v -ℤ t *ℤ u) *ℤ
+      (a.w *ℤ (shift a b *ℤ shift a b +ℤ rise a b *ℤ rise a b))
   unfolding along
   ahead_along =
-      let vs = shift a b ∷ rise a b ∷ shift a m ∷ rise a m ∷ shift a n ∷ rise a n ∷ m.w ∷ n.w ∷ f.times ∷ g.times ∷ s ∷ t ∷ u ∷ v ∷ a.w ∷ b.w ∷ [] in
+      let vs = shift a b ∷ rise a b ∷ shift a m ∷ rise a m ∷ shift a n ∷ rise a n ∷ m.w ∷ n.w ∷ f.times ∷ g.times ∷ s ∷ t ∷ u ∷ v ∷ a.w ∷
+      b.w ∷ [] in
       let size = var 0 ⊗ var 0 ⊕ var 1 ⊗ var 1 in
-      same_from ((var 8 ⊗ var 9) ⊗ ((var 0 ⊗ var 4 ⊕ var 1 ⊗ var 5) ⊗ var 6 ⊖ (var 0 ⊗ var 2 ⊕ var 1 ⊗ var 3) ⊗ var 7)) ((var 10 ⊗ var 13 ⊖ var 11 ⊗ var 12) ⊗ (var 14 ⊗ size)) vs
+      same_from ((var 8 ⊗ var 9) ⊗ ((var 0 ⊗ var 4 ⊕ var 1 ⊗ var 5) ⊗ var 6 ⊖ (var 0 ⊗ var 2 ⊕ var 1 ⊗ var 3) ⊗ var 7))
+      ((var 10 ⊗ var 13 ⊖ var 11 ⊗ var 12) ⊗ (var 14 ⊗ size)) vs
       (scaled (var 13 ⊗ size) (same (var 8 ⊗ var 6) (var 10 ⊗ var 14 ⊕ var 11 ⊗ var 15) f.mass)
       ⊞ scaled (minus (var 11 ⊗ size)) (same (var 9 ⊗ var 7) (var 12 ⊗ var 14 ⊕ var 13 ⊗ var 15) g.mass)
       ⊞ scaled (var 8 ⊗ var 6 ⊗ var 0) (same (var 9 ⊗ var 4) (var 13 ⊗ var 0) (mix_shift_start g))
@@ -59,38 +64,53 @@ module _ (a b m n : Point) (s t u v : ℤ) (f : IsMix a b m s t) (g : IsMix a b 
 
   -- the three comparisons as signs of products with the crossed weights
   one_cmp : (x y z : ℤ) → (f.times *ℤ g.times) *ℤ (y -ℤ x) ≡ z → int_cmp x y ≡ int_cmp (pos 0) z
-  one_cmp x y z e = same_int_cmp x y (pos 0) z (f.times *ℤ g.times) (pos 1) (pos-*-pos f.some g.some) (record { lt = tt }) (e ∙ identity (var 0) (num (pos 1) ⊗ (var 0 ⊖ num (pos 0))) (z ∷ []) refl)
+  one_cmp x y z e = same_int_cmp x y (pos 0) z (f.times *ℤ g.times) (pos 1) (pos-*-pos f.some g.some) (record { lt = tt })
+      (e ∙ identity (var 0) (num (pos 1) ⊗ (var 0 ⊖ num (pos 0))) (z ∷ []) refl)
 
-  points_cmp : compare_points m n ≡ ordering_then (int_cmp (pos 0) ((s *ℤ v -ℤ t *ℤ u) *ℤ shift a b)) (int_cmp (pos 0) ((s *ℤ v -ℤ t *ℤ u) *ℤ rise a b))
-  points_cmp = λ i. ordering_then (one_cmp (m.x *ℤ n.w) (n.x *ℤ m.w) ((s *ℤ v -ℤ t *ℤ u) *ℤ shift a b) ahead_across i) (one_cmp (m.y *ℤ n.w) (n.y *ℤ m.w) ((s *ℤ v -ℤ t *ℤ u) *ℤ rise a b) ahead_above i)
+  points_cmp : compare_points m n ≡ ordering_then (int_cmp (pos 0) ((s *ℤ v -ℤ t *ℤ u) *ℤ shift a b))
+      (int_cmp (pos 0) ((s *ℤ v -ℤ t *ℤ u) *ℤ rise a b))
+  points_cmp = λ i. ordering_then (one_cmp (m.x *ℤ n.w) (n.x *ℤ m.w) ((s *ℤ v -ℤ t *ℤ u) *ℤ shift a b) ahead_across i)
+      (one_cmp (m.y *ℤ n.w) (n.y *ℤ m.w) ((s *ℤ v -ℤ t *ℤ u) *ℤ rise a b) ahead_above i)
 
   along_cmp : compare_along a b m n ≡ int_cmp (pos 0) ((s *ℤ v -ℤ t *ℤ u) *ℤ (a.w *ℤ (shift a b *ℤ shift a b +ℤ rise a b *ℤ rise a b)))
   along_cmp = one_cmp (along a b m *ℤ n.w) (along a b n *ℤ m.w) _ ahead_along
 
 -- the sign of a number, from its products with the two parts of a way that goes ahead
-by_parts : (e x y g : ℤ) → (pos 0 <ℤ x) ⊎ ((x ≡ pos 0) × (pos 0 <ℤ y)) → pos 0 <ℤ g → ordering_then (int_cmp (pos 0) (e *ℤ x)) (int_cmp (pos 0) (e *ℤ y)) ≡ int_cmp (pos 0) (e *ℤ g)
+by_parts : (e x y g : ℤ) → (pos 0 <ℤ x) ⊎ ((x ≡ pos 0) × (pos 0 <ℤ y)) → pos 0 <ℤ g
+    → ordering_then (int_cmp (pos 0) (e *ℤ x)) (int_cmp (pos 0) (e *ℤ y)) ≡ int_cmp (pos 0) (e *ℤ g)
 by_parts e x y g (inl h) hg = by_sign e
-    (λ k. ap (λ o. ordering_then o (int_cmp (pos 0) (e *ℤ y))) (int_cmp_greater (pos 0) (e *ℤ x) (neg-*-pos k h)) ∙ sym (int_cmp_greater (pos 0) (e *ℤ g) (neg-*-pos k hg)))
-    (λ k. (λ i. ordering_then (int_cmp (pos 0) (k i *ℤ x)) (int_cmp (pos 0) (k i *ℤ y))) ∙ then_second (int_cmp (pos 0) (pos 0 *ℤ x)) (int_cmp (pos 0) (pos 0 *ℤ y)) (int_cmp_equal (pos 0) (pos 0 *ℤ x) (sym (zero-*ℤ x))) ∙ int_cmp_equal (pos 0) (pos 0 *ℤ y) (sym (zero-*ℤ y)) ∙ sym (int_cmp_equal (pos 0) (e *ℤ g) (sym (ap (λ z. z *ℤ g) k ∙ zero-*ℤ g))))
-    (λ k. ap (λ o. ordering_then o (int_cmp (pos 0) (e *ℤ y))) (int_cmp_less (pos 0) (e *ℤ x) (pos-*-pos k h)) ∙ sym (int_cmp_less (pos 0) (e *ℤ g) (pos-*-pos k hg)))
+    (λ k. ap (λ o. ordering_then o (int_cmp (pos 0) (e *ℤ y))) (int_cmp_greater (pos 0) (e *ℤ x) (neg-*-pos k h))
+    ∙ sym (int_cmp_greater (pos 0) (e *ℤ g) (neg-*-pos k hg)))
+    (λ k. (λ i. ordering_then (int_cmp (pos 0) (k i *ℤ x)) (int_cmp (pos 0) (k i *ℤ y)))
+    ∙ then_second (int_cmp (pos 0) (pos 0 *ℤ x)) (int_cmp (pos 0) (pos 0 *ℤ y)) (int_cmp_equal (pos 0) (pos 0 *ℤ x) (sym (zero-*ℤ x)))
+    ∙ int_cmp_equal (pos 0) (pos 0 *ℤ y) (sym (zero-*ℤ y))
+    ∙ sym (int_cmp_equal (pos 0) (e *ℤ g) (sym (ap (λ z. z *ℤ g) k ∙ zero-*ℤ g))))
+    (λ k. ap (λ o. ordering_then o (int_cmp (pos 0) (e *ℤ y))) (int_cmp_less (pos 0) (e *ℤ x) (pos-*-pos k h))
+    ∙ sym (int_cmp_less (pos 0) (e *ℤ g) (pos-*-pos k hg)))
 by_parts e x y g (inr h) hg =
-    then_second (int_cmp (pos 0) (e *ℤ x)) (int_cmp (pos 0) (e *ℤ y)) (int_cmp_equal (pos 0) (e *ℤ x) (sym (ap (λ z. e *ℤ z) h.0 ∙ *ℤ-zero e)))
-    ∙ same_int_cmp (pos 0) (e *ℤ y) (pos 0) (e *ℤ g) g y hg h.1 (identity (var 2 ⊗ (var 0 ⊗ var 1 ⊖ num (pos 0))) (var 1 ⊗ (var 0 ⊗ var 2 ⊖ num (pos 0))) (e ∷ y ∷ g ∷ []) refl)
+    then_second (int_cmp (pos 0) (e *ℤ x)) (int_cmp (pos 0) (e *ℤ y))
+    (int_cmp_equal (pos 0) (e *ℤ x) (sym (ap (λ z. e *ℤ z) h.0 ∙ *ℤ-zero e)))
+    ∙ same_int_cmp (pos 0) (e *ℤ y) (pos 0) (e *ℤ g) g y hg h.1
+    (identity (var 2 ⊗ (var 0 ⊗ var 1 ⊖ num (pos 0))) (var 1 ⊗ (var 0 ⊗ var 2 ⊖ num (pos 0))) (e ∷ y ∷ g ∷ []) refl)
 
 -- the square of the way's length
-length_pos : (a b : Point) → (pos 0 <ℤ shift a b) ⊎ ((shift a b ≡ pos 0) × (pos 0 <ℤ rise a b)) → pos 0 <ℤ (a.w *ℤ (shift a b *ℤ shift a b +ℤ rise a b *ℤ rise a b))
+length_pos : (a b : Point) → (pos 0 <ℤ shift a b) ⊎ ((shift a b ≡ pos 0) × (pos 0 <ℤ rise a b))
+    → pos 0 <ℤ (a.w *ℤ (shift a b *ℤ shift a b +ℤ rise a b *ℤ rise a b))
 length_pos a b (inl h) = pos-*-pos a.heavy (pos-+-nonneg (pos-*-pos h h) (square_nonneg (rise a b)))
 length_pos a b (inr h) = pos-*-pos a.heavy (nonneg-+-pos (square_nonneg (shift a b)) (pos-*-pos h.1 h.1))
 
-pub compare_along-ahead : (a b m n : Point) → IsBefore a b → IsOnSegment a b m → IsOnSegment a b n → compare_points m n ≡ compare_along a b m n
+pub compare_along-ahead : (a b m n : Point) → IsBefore a b → IsOnSegment a b m → IsOnSegment a b n
+    → compare_points m n ≡ compare_along a b m n
 compare_along-ahead a b m n h f g =
     let way = IsBefore-gives a b h in
     points_cmp a b m n f.s f.t g.s g.t f.mix g.mix
-    ∙ by_parts (f.s *ℤ g.t -ℤ f.t *ℤ g.s) (shift a b) (rise a b) (a.w *ℤ (shift a b *ℤ shift a b +ℤ rise a b *ℤ rise a b)) way (length_pos a b way)
+    ∙ by_parts (f.s *ℤ g.t -ℤ f.t *ℤ g.s) (shift a b) (rise a b) (a.w *ℤ (shift a b *ℤ shift a b +ℤ rise a b *ℤ rise a b)) way
+    (length_pos a b way)
     ∙ sym (along_cmp a b m n f.s f.t g.s g.t f.mix g.mix)
 
 -- the way back: the parts turned round
-pub compare_along-back : (a b m n : Point) → ¬ IsBefore a b → IsOnSegment a b m → IsOnSegment a b n → compare_points n m ≡ compare_along a b m n
+pub compare_along-back : (a b m n : Point) → ¬ IsBefore a b → IsOnSegment a b m → IsOnSegment a b n
+    → compare_points n m ≡ compare_along a b m n
 compare_along-back a b m n no_way f g =
     points_cmp a b n m g.s g.t f.s f.t g.mix f.mix ∙ turned ∙ sym (along_cmp a b m n f.s f.t g.s g.t f.mix g.mix)
   where
@@ -101,22 +121,30 @@ compare_along-back a b m n no_way f g =
     size = a.w *ℤ (shift a b *ℤ shift a b +ℤ rise a b *ℤ rise a b)
 
     flipped : (x : ℤ) → (g.s *ℤ f.t -ℤ g.t *ℤ f.s) *ℤ x ≡ e *ℤ neg_ℤ x
-    flipped x = identity ((var 2 ⊗ var 1 ⊖ var 3 ⊗ var 0) ⊗ var 4) ((var 0 ⊗ var 3 ⊖ var 1 ⊗ var 2) ⊗ minus (var 4)) (f.s ∷ f.t ∷ g.s ∷ g.t ∷ x ∷ []) refl
+    flipped x = identity ((var 2 ⊗ var 1 ⊖ var 3 ⊗ var 0) ⊗ var 4) ((var 0 ⊗ var 3 ⊖ var 1 ⊗ var 2) ⊗ minus (var 4))
+        (f.s ∷ f.t ∷ g.s ∷ g.t ∷ x ∷ []) refl
 
     squares : (pos 0 <ℤ neg_ℤ (shift a b)) ⊎ ((neg_ℤ (shift a b) ≡ pos 0) × (pos 0 <ℤ neg_ℤ (rise a b))) → pos 0 <ℤ size
-    squares (inl h) = pos-*-pos a.heavy (pos-+-nonneg (square_pos (shift a b) (λ z. <ℤ_apart h (omega (arith, linear, z)))) (square_nonneg (rise a b)))
-    squares (inr h) = pos-*-pos a.heavy (nonneg-+-pos (square_nonneg (shift a b)) (square_pos (rise a b) (λ z. <ℤ_apart h.1 (omega (arith, linear, z)))))
+    squares (inl h) = pos-*-pos a.heavy
+        (pos-+-nonneg (square_pos (shift a b) (λ z. <ℤ_apart h (omega (arith, linear, z)))) (square_nonneg (rise a b)))
+    squares (inr h) = pos-*-pos a.heavy
+        (nonneg-+-pos (square_nonneg (shift a b)) (square_pos (rise a b) (λ z. <ℤ_apart h.1 (omega (arith, linear, z)))))
 
-    goes_back : (pos 0 <ℤ neg_ℤ (shift a b)) ⊎ ((neg_ℤ (shift a b) ≡ pos 0) × (pos 0 <ℤ neg_ℤ (rise a b))) → ordering_then (int_cmp (pos 0) (e *ℤ neg_ℤ (shift a b))) (int_cmp (pos 0) (e *ℤ neg_ℤ (rise a b))) ≡ int_cmp (pos 0) (e *ℤ size)
+    goes_back : (pos 0 <ℤ neg_ℤ (shift a b)) ⊎ ((neg_ℤ (shift a b) ≡ pos 0) × (pos 0 <ℤ neg_ℤ (rise a b)))
+        → ordering_then (int_cmp (pos 0) (e *ℤ neg_ℤ (shift a b))) (int_cmp (pos 0) (e *ℤ neg_ℤ (rise a b))) ≡ int_cmp (pos 0) (e *ℤ size)
     goes_back h = by_parts e (neg_ℤ (shift a b)) (neg_ℤ (rise a b)) size h (squares h)
 
-    stays : shift a b ≡ pos 0 → rise a b ≡ pos 0 → ordering_then (int_cmp (pos 0) (e *ℤ neg_ℤ (shift a b))) (int_cmp (pos 0) (e *ℤ neg_ℤ (rise a b))) ≡ int_cmp (pos 0) (e *ℤ size)
+    stays : shift a b ≡ pos 0 → rise a b ≡ pos 0 → ordering_then (int_cmp (pos 0) (e *ℤ neg_ℤ (shift a b)))
+        (int_cmp (pos 0) (e *ℤ neg_ℤ (rise a b))) ≡ int_cmp (pos 0) (e *ℤ size)
     stays p q =
-        then_second (int_cmp (pos 0) (e *ℤ neg_ℤ (shift a b))) (int_cmp (pos 0) (e *ℤ neg_ℤ (rise a b))) (int_cmp_equal (pos 0) (e *ℤ neg_ℤ (shift a b)) (sym (ap (λ z. e *ℤ neg_ℤ z) p ∙ *ℤ-zero e)))
+        then_second (int_cmp (pos 0) (e *ℤ neg_ℤ (shift a b))) (int_cmp (pos 0) (e *ℤ neg_ℤ (rise a b)))
+        (int_cmp_equal (pos 0) (e *ℤ neg_ℤ (shift a b)) (sym (ap (λ z. e *ℤ neg_ℤ z) p ∙ *ℤ-zero e)))
         ∙ int_cmp_equal (pos 0) (e *ℤ neg_ℤ (rise a b)) (sym (ap (λ z. e *ℤ neg_ℤ z) q ∙ *ℤ-zero e))
-        ∙ sym (int_cmp_equal (pos 0) (e *ℤ size) (sym ((λ i. e *ℤ (a.w *ℤ (p i *ℤ p i +ℤ q i *ℤ q i))) ∙ ap (λ z. e *ℤ z) (*ℤ-zero a.w) ∙ *ℤ-zero e)))
+        ∙ sym (int_cmp_equal (pos 0) (e *ℤ size)
+        (sym ((λ i. e *ℤ (a.w *ℤ (p i *ℤ p i +ℤ q i *ℤ q i))) ∙ ap (λ z. e *ℤ z) (*ℤ-zero a.w) ∙ *ℤ-zero e)))
 
-    turned : ordering_then (int_cmp (pos 0) ((g.s *ℤ f.t -ℤ g.t *ℤ f.s) *ℤ shift a b)) (int_cmp (pos 0) ((g.s *ℤ f.t -ℤ g.t *ℤ f.s) *ℤ rise a b)) ≡ int_cmp (pos 0) (e *ℤ size)
+    turned : ordering_then (int_cmp (pos 0) ((g.s *ℤ f.t -ℤ g.t *ℤ f.s) *ℤ shift a b))
+        (int_cmp (pos 0) ((g.s *ℤ f.t -ℤ g.t *ℤ f.s) *ℤ rise a b)) ≡ int_cmp (pos 0) (e *ℤ size)
     turned = (λ i. ordering_then (int_cmp (pos 0) (flipped (shift a b) i)) (int_cmp (pos 0) (flipped (rise a b) i))) ∙ by_sign (shift a b)
         (λ h. goes_back (inl (omega (arith, linear, h))))
         (λ p. by_sign (rise a b)
@@ -166,7 +194,13 @@ module _ (a b p q : Point) (f : IsOnSegment a b p) (g : IsOnSegment a b q) where
 
   -- a point on the way to q is not beyond q
   pub not_beyond : IsOnSegment a q p → ¬ (compare_along a b p q ≡ Greater)
-  not_beyond on e = absurd (omega (arith, linear, greater_int_cmp (pos 0) (lead *ℤ size) (sym (along_cmp a b p q first second g.s g.t through g.mix) ∙ e), nonneg-*-nonneg ahead wide_size))
+  not_beyond on e = absurd
+      (omega (
+        arith,
+        linear,
+        greater_int_cmp (pos 0) (lead *ℤ size) (sym (along_cmp a b p q first second g.s g.t through g.mix) ∙ e),
+        nonneg-*-nonneg ahead wide_size,
+      ))
     where
       first : ℤ
       first = on.s *ℤ g.mix.times +ℤ on.t *ℤ g.s
@@ -184,12 +218,18 @@ module _ (a b p q : Point) (f : IsOnSegment a b p) (g : IsOnSegment a b q) where
       wide_size = nonneg-*-nonneg (<ℤ_weaken a.heavy) (nonneg-+-nonneg (square_nonneg (shift a b)) (square_nonneg (rise a b)))
 
       ahead : pos 0 ≤ℤ lead
-      ahead = subst (λ z. pos 0 ≤ℤ z) (identity (var 0 ⊗ (var 1 ⊗ var 2)) ((var 0 ⊗ var 1 ⊕ var 3 ⊗ var 4) ⊗ var 2 ⊖ (var 3 ⊗ var 2) ⊗ var 4) (on.s ∷ g.mix.times ∷ g.t ∷ on.t ∷ g.s ∷ []) refl) (nonneg-*-nonneg on.mix.first (nonneg-*-nonneg (<ℤ_weaken g.mix.some) g.mix.second))
+      ahead = subst (λ z. pos 0 ≤ℤ z)
+          (identity (var 0 ⊗ (var 1 ⊗ var 2)) ((var 0 ⊗ var 1 ⊕ var 3 ⊗ var 4) ⊗ var 2 ⊖ (var 3 ⊗ var 2) ⊗ var 4)
+          (on.s ∷ g.mix.times ∷ g.t ∷ on.t ∷ g.s ∷ []) refl)
+          (nonneg-*-nonneg on.mix.first (nonneg-*-nonneg (<ℤ_weaken g.mix.some) g.mix.second))
 
-      part : (x y z w : ℤ) → on.mix.times *ℤ w ≡ on.s *ℤ x +ℤ on.t *ℤ z → g.mix.times *ℤ z ≡ g.s *ℤ x +ℤ g.t *ℤ y → (on.mix.times *ℤ g.mix.times) *ℤ w ≡ first *ℤ x +ℤ second *ℤ y
+      part : (x y z w : ℤ) → on.mix.times *ℤ w ≡ on.s *ℤ x +ℤ on.t *ℤ z → g.mix.times *ℤ z ≡ g.s *ℤ x +ℤ g.t *ℤ y
+          → (on.mix.times *ℤ g.mix.times) *ℤ w ≡ first *ℤ x +ℤ second *ℤ y
       part x y z w h k =
-          same_from ((var 0 ⊗ var 1) ⊗ var 9) ((var 2 ⊗ var 1 ⊕ var 3 ⊗ var 4) ⊗ var 6 ⊕ (var 3 ⊗ var 5) ⊗ var 7) (on.mix.times ∷ g.mix.times ∷ on.s ∷ on.t ∷ g.s ∷ g.t ∷ x ∷ y ∷ z ∷ w ∷ [])
-          (scaled (var 1) (same (var 0 ⊗ var 9) (var 2 ⊗ var 6 ⊕ var 3 ⊗ var 8) h) ⊞ scaled (var 3) (same (var 1 ⊗ var 8) (var 4 ⊗ var 6 ⊕ var 5 ⊗ var 7) k)) refl
+          same_from ((var 0 ⊗ var 1) ⊗ var 9) ((var 2 ⊗ var 1 ⊕ var 3 ⊗ var 4) ⊗ var 6 ⊕ (var 3 ⊗ var 5) ⊗ var 7)
+          (on.mix.times ∷ g.mix.times ∷ on.s ∷ on.t ∷ g.s ∷ g.t ∷ x ∷ y ∷ z ∷ w ∷ [])
+          (scaled (var 1) (same (var 0 ⊗ var 9) (var 2 ⊗ var 6 ⊕ var 3 ⊗ var 8) h)
+          ⊞ scaled (var 3) (same (var 1 ⊗ var 8) (var 4 ⊗ var 6 ⊕ var 5 ⊗ var 7) k)) refl
 
       through : IsMix a b p first second
       through = record {
@@ -222,12 +262,17 @@ module _ (a b p q : Point) (f : IsOnSegment a b p) (g : IsOnSegment a b q) where
           (λ h. pos-*-pos a.heavy (pos-+-nonneg (pos-*-pos h h) (square_nonneg (rise a b))))
 
       ahead : pos 0 ≤ℤ lead
-      ahead = by_lt_z lead (pos 0) (λ h. absurd (n (along_cmp a b p q f.s f.t g.s g.t f.mix g.mix ∙ int_cmp_greater (pos 0) (lead *ℤ size) (neg-*-pos h moves)))) (λ h. h)
+      ahead = by_lt_z lead (pos 0)
+          (λ h. absurd (n (along_cmp a b p q f.s f.t g.s g.t f.mix g.mix ∙ int_cmp_greater (pos 0) (lead *ℤ size) (neg-*-pos h moves))))
+          (λ h. h)
 
-      part : (x y z w : ℤ) → f.mix.times *ℤ w ≡ f.s *ℤ x +ℤ f.t *ℤ y → g.mix.times *ℤ z ≡ g.s *ℤ x +ℤ g.t *ℤ y → (g.t *ℤ f.mix.times) *ℤ w ≡ lead *ℤ x +ℤ (f.t *ℤ g.mix.times) *ℤ z
+      part : (x y z w : ℤ) → f.mix.times *ℤ w ≡ f.s *ℤ x +ℤ f.t *ℤ y → g.mix.times *ℤ z ≡ g.s *ℤ x +ℤ g.t *ℤ y
+          → (g.t *ℤ f.mix.times) *ℤ w ≡ lead *ℤ x +ℤ (f.t *ℤ g.mix.times) *ℤ z
       part x y z w h k =
-          same_from ((var 5 ⊗ var 0) ⊗ var 9) ((var 2 ⊗ var 5 ⊖ var 3 ⊗ var 4) ⊗ var 6 ⊕ (var 3 ⊗ var 1) ⊗ var 8) (f.mix.times ∷ g.mix.times ∷ f.s ∷ f.t ∷ g.s ∷ g.t ∷ x ∷ y ∷ z ∷ w ∷ [])
-          (scaled (var 5) (same (var 0 ⊗ var 9) (var 2 ⊗ var 6 ⊕ var 3 ⊗ var 7) h) ⊞ scaled (minus (var 3)) (same (var 1 ⊗ var 8) (var 4 ⊗ var 6 ⊕ var 5 ⊗ var 7) k)) refl
+          same_from ((var 5 ⊗ var 0) ⊗ var 9) ((var 2 ⊗ var 5 ⊖ var 3 ⊗ var 4) ⊗ var 6 ⊕ (var 3 ⊗ var 1) ⊗ var 8)
+          (f.mix.times ∷ g.mix.times ∷ f.s ∷ f.t ∷ g.s ∷ g.t ∷ x ∷ y ∷ z ∷ w ∷ [])
+          (scaled (var 5) (same (var 0 ⊗ var 9) (var 2 ⊗ var 6 ⊕ var 3 ⊗ var 7) h)
+          ⊞ scaled (minus (var 3)) (same (var 1 ⊗ var 8) (var 4 ⊗ var 6 ⊕ var 5 ⊗ var 7) k)) refl
 
       some : pos 0 <ℤ g.t → IsOnSegment a q p
       some h = record {
@@ -263,14 +308,17 @@ module _ (a b p q : Point) (f : IsOnSegment a b p) (g : IsOnSegment a b q) where
           some_first : pos 0 <ℤ g.s
           some_first =
               pos_factor a.w g.s a.heavy (subst (λ z. pos 0 <ℤ z)
-              (same_from (var 0 ⊗ var 1) (var 2 ⊗ var 3) (g.mix.times ∷ q.w ∷ a.w ∷ g.s ∷ g.t ∷ b.w ∷ []) (same (var 0 ⊗ var 1) (var 3 ⊗ var 2 ⊕ var 4 ⊗ var 5) g.mix.mass ⊞ scaled (var 5) (vanishing (var 4) e)) refl)
+              (same_from (var 0 ⊗ var 1) (var 2 ⊗ var 3) (g.mix.times ∷ q.w ∷ a.w ∷ g.s ∷ g.t ∷ b.w ∷ [])
+              (same (var 0 ⊗ var 1) (var 3 ⊗ var 2 ⊕ var 4 ⊗ var 5) g.mix.mass ⊞ scaled (var 5) (vanishing (var 4) e)) refl)
               (pos-*-pos g.mix.some q.heavy))
 
           no_second : f.t ≡ pos 0
           no_second = by_sign f.t
               (λ h. absurd (<ℤ_irrefl (<ℤ-≤ℤ_trans h f.mix.second)))
               (λ z. z)
-              (λ h. impossible_by (f.s ∷ g.t ∷ f.t ∷ g.s ∷ []) (positive (var 2) h ⊠ positive (var 3) some_first ⊞ natural (var 0 ⊗ var 1 ⊖ var 2 ⊗ var 3) ahead ⊞ scaled (minus (var 0)) (vanishing (var 1) e)) refl)
+              (λ h. impossible_by (f.s ∷ g.t ∷ f.t ∷ g.s ∷ [])
+              (positive (var 2) h ⊠ positive (var 3) some_first ⊞ natural (var 0 ⊗ var 1 ⊖ var 2 ⊗ var 3) ahead
+              ⊞ scaled (minus (var 0)) (vanishing (var 1) e)) refl)
 
           whole : (x y z w : ℤ) → f.mix.times *ℤ w ≡ f.s *ℤ x +ℤ f.t *ℤ y → f.mix.times *ℤ w ≡ f.s *ℤ x +ℤ pos 0 *ℤ z
           whole x y z w h =

@@ -157,13 +157,15 @@ gap_same_second a v b w b' w' h =
 pub shift_same : {a a' b b' : Point} → IsSamePoint a a' → IsSamePoint b b' → OneSign (shift a b) (shift a' b')
 unfolding shift
 shift_same {a} {a'} {b} {b'} ha hb =
-    OneSign-trans (record { m = a'.w; n = a.w; some_m = a'.heavy; some_n = a.heavy; level = gap_same_first a.x a.w a'.x a'.w b.x b.w ha.across })
+    OneSign-trans (record
+    { m = a'.w; n = a.w; some_m = a'.heavy; some_n = a.heavy; level = gap_same_first a.x a.w a'.x a'.w b.x b.w ha.across })
     (record { m = b'.w; n = b.w; some_m = b'.heavy; some_n = b.heavy; level = gap_same_second a'.x a'.w b.x b.w b'.x b'.w hb.across })
 
 pub rise_same : {a a' b b' : Point} → IsSamePoint a a' → IsSamePoint b b' → OneSign (rise a b) (rise a' b')
 unfolding rise
 rise_same {a} {a'} {b} {b'} ha hb =
-    OneSign-trans (record { m = a'.w; n = a.w; some_m = a'.heavy; some_n = a.heavy; level = gap_same_first a.y a.w a'.y a'.w b.y b.w ha.above })
+    OneSign-trans (record
+    { m = a'.w; n = a.w; some_m = a'.heavy; some_n = a.heavy; level = gap_same_first a.y a.w a'.y a'.w b.y b.w ha.above })
     (record { m = b'.w; n = b.w; some_m = b'.heavy; some_n = b.heavy; level = gap_same_second a'.y a'.w b.y b.w b'.y b'.w hb.above })
 
 -- points of which two are the same are on one line

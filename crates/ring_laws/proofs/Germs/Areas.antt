@@ -34,7 +34,9 @@ use Rattle.figure_laws.proofs.Points.Kinds.{one_part}
 use Rattle.ring_laws.proofs.Germs.Edges.{AreClear, AreJoined, joined_between, direction_pointed, is_toward, Decides-is_toward, on_true}
 
 -- ---- a segment between two points of a segment is part of it
-part_of_sum : (k s t l e f m g h a b u w p : ℤ) → k *ℤ p ≡ (s *ℤ u) +ℤ (t *ℤ w) → l *ℤ u ≡ (e *ℤ a) +ℤ (f *ℤ b) → m *ℤ w ≡ (g *ℤ a) +ℤ (h *ℤ b) → (k *ℤ (l *ℤ m)) *ℤ p ≡ ((((s *ℤ m) *ℤ e) +ℤ ((t *ℤ l) *ℤ g)) *ℤ a) +ℤ ((((s *ℤ m) *ℤ f) +ℤ ((t *ℤ l) *ℤ h)) *ℤ b)
+part_of_sum : (k s t l e f m g h a b u w p : ℤ) → k *ℤ p ≡ (s *ℤ u) +ℤ (t *ℤ w) → l *ℤ u ≡ (e *ℤ a) +ℤ (f *ℤ b)
+    → m *ℤ w ≡ (g *ℤ a) +ℤ (h *ℤ b) → (k *ℤ (l *ℤ m)) *ℤ p ≡ ((((s *ℤ m) *ℤ e) +ℤ ((t *ℤ l) *ℤ g)) *ℤ a) +ℤ
+    ((((s *ℤ m) *ℤ f) +ℤ ((t *ℤ l) *ℤ h)) *ℤ b)
 part_of_sum k s t l e f m g h a b u w p x y z =
     same_from ((var 0 ⊗ (var 3 ⊗ var 6)) ⊗ var 13)
     (((var 1 ⊗ var 6) ⊗ var 4 ⊕ (var 2 ⊗ var 3) ⊗ var 7) ⊗ var 9 ⊕ ((var 1 ⊗ var 6) ⊗ var 5 ⊕ (var 2 ⊗ var 3) ⊗ var 8) ⊗ var 10)
@@ -43,10 +45,13 @@ part_of_sum k s t l e f m g h a b u w p x y z =
     ⊞ scaled (var 1 ⊗ var 6) (same (var 3 ⊗ var 11) (var 4 ⊗ var 9 ⊕ var 5 ⊗ var 10) y)
     ⊞ scaled (var 2 ⊗ var 3) (same (var 6 ⊗ var 12) (var 7 ⊗ var 9 ⊕ var 8 ⊗ var 10) z)) refl
 
-pub mix_within : {a b u w p : Point} {e f g h s t : ℤ} (y : IsMix a b u e f) (z : IsMix a b w g h) (x : IsMix u w p s t) → IsMix a b p (((s *ℤ z.times) *ℤ e) +ℤ ((t *ℤ y.times) *ℤ g)) (((s *ℤ z.times) *ℤ f) +ℤ ((t *ℤ y.times) *ℤ h))
+pub mix_within : {a b u w p : Point} {e f g h s t : ℤ} (y : IsMix a b u e f) (z : IsMix a b w g h) (x : IsMix u w p s t)
+    → IsMix a b p (((s *ℤ z.times) *ℤ e) +ℤ ((t *ℤ y.times) *ℤ g)) (((s *ℤ z.times) *ℤ f) +ℤ ((t *ℤ y.times) *ℤ h))
 mix_within {a} {b} {u} {w} {p} {e} {f} {g} {h} {s} {t} y z x = record {
-  first = nonneg-+-nonneg (nonneg-*-nonneg (nonneg-*-nonneg x.first (<ℤ_weaken z.some)) y.first) (nonneg-*-nonneg (nonneg-*-nonneg x.second (<ℤ_weaken y.some)) z.first);
-  second = nonneg-+-nonneg (nonneg-*-nonneg (nonneg-*-nonneg x.first (<ℤ_weaken z.some)) y.second) (nonneg-*-nonneg (nonneg-*-nonneg x.second (<ℤ_weaken y.some)) z.second);
+  first = nonneg-+-nonneg (nonneg-*-nonneg (nonneg-*-nonneg x.first (<ℤ_weaken z.some)) y.first)
+      (nonneg-*-nonneg (nonneg-*-nonneg x.second (<ℤ_weaken y.some)) z.first);
+  second = nonneg-+-nonneg (nonneg-*-nonneg (nonneg-*-nonneg x.first (<ℤ_weaken z.some)) y.second)
+      (nonneg-*-nonneg (nonneg-*-nonneg x.second (<ℤ_weaken y.some)) z.second);
   times = x.times *ℤ (y.times *ℤ z.times);
   some = pos-*-pos x.some (pos-*-pos y.some z.some);
   across = part_of_sum x.times s t y.times e f z.times g h a.x b.x u.x w.x p.x x.across y.across z.across;
@@ -63,7 +68,9 @@ segment_within on_u on_w on = record {
 
 -- ---- an edge that runs from v along d has the points v + d/n
 -- c steps of the way to a are r of d, and n of the way to p are d
-toward_sum : (n r c d v v_w a a_w p p_w : ℤ) → n *ℤ ((p *ℤ v_w) -ℤ (v *ℤ p_w)) ≡ d *ℤ (v_w *ℤ p_w) → c *ℤ ((a *ℤ v_w) -ℤ (v *ℤ a_w)) ≡ r *ℤ d → ((n *ℤ r) *ℤ v_w) *ℤ p ≡ ((p_w *ℤ ((n *ℤ r) -ℤ ((c *ℤ v_w) *ℤ a_w))) *ℤ v) +ℤ (((p_w *ℤ c) *ℤ (v_w *ℤ v_w)) *ℤ a)
+toward_sum : (n r c d v v_w a a_w p p_w : ℤ) → n *ℤ ((p *ℤ v_w) -ℤ (v *ℤ p_w)) ≡ d *ℤ (v_w *ℤ p_w)
+    → c *ℤ ((a *ℤ v_w) -ℤ (v *ℤ a_w)) ≡ r *ℤ d → ((n *ℤ r) *ℤ v_w) *ℤ p ≡ ((p_w *ℤ ((n *ℤ r) -ℤ ((c *ℤ v_w) *ℤ a_w))) *ℤ v) +ℤ
+    (((p_w *ℤ c) *ℤ (v_w *ℤ v_w)) *ℤ a)
 toward_sum n r c d v v_w a a_w p p_w e f =
     same_from (((var 0 ⊗ var 1) ⊗ var 5) ⊗ var 8)
     ((var 9 ⊗ (var 0 ⊗ var 1 ⊖ (var 2 ⊗ var 5) ⊗ var 7)) ⊗ var 4 ⊕ ((var 9 ⊗ var 2) ⊗ (var 5 ⊗ var 5)) ⊗ var 6)
@@ -71,21 +78,24 @@ toward_sum n r c d v v_w a a_w p p_w e f =
     (scaled (var 1) (same (var 0 ⊗ (var 8 ⊗ var 5 ⊖ var 4 ⊗ var 9)) (var 3 ⊗ (var 5 ⊗ var 9)) e)
     ⊞ scaled (var 5 ⊗ var 9) (same (var 1 ⊗ var 3) (var 2 ⊗ (var 6 ⊗ var 5 ⊖ var 4 ⊗ var 7)) (sym f))) refl
 
-toward_mass : (n r c v_w a_w p_w : ℤ) → ((n *ℤ r) *ℤ v_w) *ℤ p_w ≡ ((p_w *ℤ ((n *ℤ r) -ℤ ((c *ℤ v_w) *ℤ a_w))) *ℤ v_w) +ℤ (((p_w *ℤ c) *ℤ (v_w *ℤ v_w)) *ℤ a_w)
+toward_mass : (n r c v_w a_w p_w : ℤ) → ((n *ℤ r) *ℤ v_w) *ℤ p_w ≡ ((p_w *ℤ ((n *ℤ r) -ℤ ((c *ℤ v_w) *ℤ a_w))) *ℤ v_w) +ℤ
+    (((p_w *ℤ c) *ℤ (v_w *ℤ v_w)) *ℤ a_w)
 toward_mass n r c v_w a_w p_w =
     same_from (((var 0 ⊗ var 1) ⊗ var 3) ⊗ var 5)
     ((var 5 ⊗ (var 0 ⊗ var 1 ⊖ (var 2 ⊗ var 3) ⊗ var 4)) ⊗ var 3 ⊕ ((var 5 ⊗ var 2) ⊗ (var 3 ⊗ var 3)) ⊗ var 4)
     (n ∷ r ∷ c ∷ v_w ∷ a_w ∷ p_w ∷ []) (same (num (pos 0)) (num (pos 0)) refl) refl
 
 joined_step : (c i j x z : ℤ) → c *ℤ z ≡ (i *ℤ x) +ℤ (j *ℤ x) → c *ℤ z ≡ (i +ℤ j) *ℤ x
-joined_step c i j x z e = same_from (var 0 ⊗ var 4) ((var 1 ⊕ var 2) ⊗ var 3) (c ∷ i ∷ j ∷ x ∷ z ∷ []) (same (var 0 ⊗ var 4) (var 1 ⊗ var 3 ⊕ var 2 ⊗ var 3) e) refl
+joined_step c i j x z e = same_from (var 0 ⊗ var 4) ((var 1 ⊕ var 2) ⊗ var 3) (c ∷ i ∷ j ∷ x ∷ z ∷ [])
+    (same (var 0 ⊗ var 4) (var 1 ⊗ var 3 ⊕ var 2 ⊗ var 3) e) refl
 
 far_enough : (n r g : ℤ) → pos 0 <ℤ r → pos 0 <ℤ n → g ≤ℤ n → pos 0 ≤ℤ ((n *ℤ r) -ℤ g)
 far_enough n r g hr hn h =
     at_most_by (num (pos 0)) (var 0 ⊗ var 1 ⊖ var 2) (n ∷ r ∷ g ∷ [])
     (λ denied. denied ⊞ whole (positive (var 1) hr) ⊠ positive (var 0) hn ⊞ at_most (var 2) (var 0) h) refl
 
-pub toward_on : (v : Point) (d : Direction) (a : Point) (c : IsInCone v d d a) (n : ℕ) (p : Point) → size_of ((c.times *ℤ v.w) *ℤ a.w) < n → IsAway v d n p → IsOnSegment v a p
+pub toward_on : (v : Point) (d : Direction) (a : Point) (c : IsInCone v d d a) (n : ℕ) (p : Point) → size_of ((c.times *ℤ v.w) *ℤ a.w) < n
+    → IsAway v d n p → IsOnSegment v a p
 unfolding shift rise
 toward_on v d a c n p far away =
     let r = c.i +ℤ c.j in
@@ -99,31 +109,38 @@ toward_on v d a c n p far away =
         second = <ℤ_weaken (pos-*-pos (pos-*-pos p.heavy c.positive) (pos-*-pos v.heavy v.heavy));
         times = (pos n *ℤ r) *ℤ v.w;
         some = pos-*-pos (pos-*-pos some_n c.some) v.heavy;
-        across = toward_sum (pos n) r c.times d.x v.x v.w a.x a.w p.x p.w (away_shift away) (joined_step c.times c.i c.j d.x (shift v a) c.across);
-        above = toward_sum (pos n) r c.times d.y v.y v.w a.y a.w p.y p.w (away_rise away) (joined_step c.times c.i c.j d.y (rise v a) c.above);
+        across = toward_sum (pos n) r c.times d.x v.x v.w a.x a.w p.x p.w (away_shift away)
+            (joined_step c.times c.i c.j d.x (shift v a) c.across);
+        above = toward_sum (pos n) r c.times d.y v.y v.w a.y a.w p.y p.w (away_rise away)
+            (joined_step c.times c.i c.j d.y (rise v a) c.above);
         mass = toward_mass (pos n) r c.times v.w a.w p.w;
       };
     }
 
-edge_along : (v : Point) (d : Direction) (f : Seg) → is_on_edge v f ≡ true → (a : Point) → IsOnSegment (point_of f.a) (point_of f.b) a → is_toward v d a ≡ true → HoldsAlong (λ p. is_on_edge p f ≡ true) v d
+edge_along : (v : Point) (d : Direction) (f : Seg) → is_on_edge v f ≡ true → (a : Point) → IsOnSegment (point_of f.a) (point_of f.b) a
+    → is_toward v d a ≡ true → HoldsAlong (λ p. is_on_edge p f ≡ true) v d
 edge_along v d f on a on_a toward =
     let c = (Decides-is_toward v d a).0 toward in
     record {
       from = size_of ((c.times *ℤ v.w) *ℤ a.w);
-      holds = λ n far p away. (Decides-is_on_segment (point_of f.a) (point_of f.b) p).1 (segment_within (on_true on) on_a (toward_on v d a c n p far away));
+      holds = λ n far p away. (Decides-is_on_segment (point_of f.a) (point_of f.b) p).1
+          (segment_within (on_true on) on_a (toward_on v d a c n p far away));
     }
 
 -- either an edge runs from v along d, and then the points v + d/n are on it, or no edge does
-pub along_or_clear : (v : Point) (d : Direction) (edges : List Seg) → HoldsAlong (λ p. is_on_edges p edges ≡ true) v d ⊎ AreClear v d d edges
+pub along_or_clear : (v : Point) (d : Direction) (edges : List Seg) → HoldsAlong (λ p. is_on_edges p edges ≡ true) v d
+    ⊎ AreClear v d d edges
 along_or_clear v d [] = inr tt
 along_or_clear v d (f ∷ edges) = by_rest (along_or_clear v d edges)
   where
     first_along : HoldsAlong (λ p. is_on_edge p f ≡ true) v d → HoldsAlong (λ p. is_on_edges p (f ∷ edges) ≡ true) v d
     first_along h = record { from = h.from; holds = λ n far p away. or_left (is_on_edge p f) (is_on_edges p edges) (h.holds n far p away) }
 
-    by_ends : (b c : Bool) → is_toward v d (point_of f.a) ≡ b → is_toward v d (point_of f.b) ≡ c → is_on_edge v f ≡ true → AreClear v d d edges → HoldsAlong (λ p. is_on_edges p (f ∷ edges) ≡ true) v d ⊎ AreClear v d d (f ∷ edges)
+    by_ends : (b c : Bool) → is_toward v d (point_of f.a) ≡ b → is_toward v d (point_of f.b) ≡ c → is_on_edge v f ≡ true
+        → AreClear v d d edges → HoldsAlong (λ p. is_on_edges p (f ∷ edges) ≡ true) v d ⊎ AreClear v d d (f ∷ edges)
     by_ends true c h k on clear = inl (first_along (edge_along v d f on (point_of f.a) (start_on_segment (point_of f.a) (point_of f.b)) h))
-    by_ends false true h k on clear = inl (first_along (edge_along v d f on (point_of f.b) (end_on_segment (point_of f.a) (point_of f.b)) k))
+    by_ends false true h k on clear = inl
+        (first_along (edge_along v d f on (point_of f.b) (end_on_segment (point_of f.a) (point_of f.b)) k))
     by_ends false false h k on clear =
         inr (
           λ on'. record {
@@ -133,22 +150,27 @@ along_or_clear v d (f ∷ edges) = by_rest (along_or_clear v d edges)
           clear,
         )
 
-    by_v : (b : Bool) → is_on_edge v f ≡ b → AreClear v d d edges → HoldsAlong (λ p. is_on_edges p (f ∷ edges) ≡ true) v d ⊎ AreClear v d d (f ∷ edges)
+    by_v : (b : Bool) → is_on_edge v f ≡ b → AreClear v d d edges → HoldsAlong (λ p. is_on_edges p (f ∷ edges) ≡ true) v d
+        ⊎ AreClear v d d (f ∷ edges)
     by_v true on clear = by_ends (is_toward v d (point_of f.a)) (is_toward v d (point_of f.b)) refl refl on clear
     by_v false off clear = inr (λ on. absurd (true≢false (sym on ∙ off)), clear)
 
-    by_rest : HoldsAlong (λ p. is_on_edges p edges ≡ true) v d ⊎ AreClear v d d edges → HoldsAlong (λ p. is_on_edges p (f ∷ edges) ≡ true) v d ⊎ AreClear v d d (f ∷ edges)
-    by_rest (inl h) = inl (record { from = h.from; holds = λ n far p away. or_right (is_on_edge p f) (is_on_edges p edges) (h.holds n far p away) })
+    by_rest : HoldsAlong (λ p. is_on_edges p edges ≡ true) v d ⊎ AreClear v d d edges
+        → HoldsAlong (λ p. is_on_edges p (f ∷ edges) ≡ true) v d ⊎ AreClear v d d (f ∷ edges)
+    by_rest (inl h) = inl
+        (record { from = h.from; holds = λ n far p away. or_right (is_on_edge p f) (is_on_edges p edges) (h.holds n far p away) })
     by_rest (inr clear) = by_v (is_on_edge v f) refl clear
 
 -- ---- the location along a segment that meets no edge of the area
-holes_stay : (p q : Point) (holes : List (List Pt)) → All IsRingShaped holes → Misses p q (edges_of_rings holes) → list_any (is_inside p) holes ≡ list_any (is_inside q) holes
+holes_stay : (p q : Point) (holes : List (List Pt)) → All IsRingShaped holes → Misses p q (edges_of_rings holes)
+    → list_any (is_inside p) holes ≡ list_any (is_inside q) holes
 holes_stay p q [] shaped miss = refl
 holes_stay p q (hole ∷ holes) shaped miss = λ i.
     inside_stays p q hole (All-head IsRingShaped hole holes shaped).closed (misses_left (edges_of hole) (edges_of_rings holes) miss) i
     || holes_stay p q holes (All-tail IsRingShaped hole holes shaped) (misses_right (edges_of hole) (edges_of_rings holes) miss) i
 
-pub location_stays : (p q : Point) (area : Area) → IsAreaShaped area → Misses p q (edges_of_rings (rings_of area)) → location area p ≡ location area q
+pub location_stays : (p q : Point) (area : Area) → IsAreaShaped area → Misses p q (edges_of_rings (rings_of area))
+    → location area p ≡ location area q
 location_stays p q area shaped miss = λ i. location_by (on_edges i) (shell i) (holes i)
   where
     on_edges : is_on_edges p (edges_of_rings (rings_of area)) ≡ is_on_edges q (edges_of_rings (rings_of area))
@@ -177,16 +199,20 @@ germ_exists area shaped v d = go (along_or_clear v d (edges_of_rings (rings_of a
       is = record {
         from = j.from;
         holds = λ n far p away.
-            location_stays p (away_point v d j.from) area shaped (j.free n (suc j.from) far (omega arith) p (away_point v d j.from) away (away_point_is v d j.from));
+            location_stays p (away_point v d j.from) area shaped
+            (j.free n (suc j.from) far (omega arith) p (away_point v d j.from) away (away_point_is v d j.from));
       };
     }
 
-    go : HoldsAlong (λ p. is_on_edges p (edges_of_rings (rings_of area)) ≡ true) v d ⊎ AreClear v d d (edges_of_rings (rings_of area)) → HasGerm area v d
-    go (inl along) = record { germ = Boundary; is = record { from = along.from; holds = λ n far p away. on_boundary area p (along.holds n far p away) } }
+    go : HoldsAlong (λ p. is_on_edges p (edges_of_rings (rings_of area)) ≡ true) v d ⊎ AreClear v d d (edges_of_rings (rings_of area))
+        → HasGerm area v d
+    go (inl along) = record
+        { germ = Boundary; is = record { from = along.from; holds = λ n far p away. on_boundary area p (along.holds n far p away) } }
     go (inr clear) = settled (joined_between v d d (direction_pointed v d) (edges_of_rings (rings_of area)) clear)
 
 -- no two germs along one direction, and the same germ along two directions that no edge comes between
-pub germ_same : (area : Area) → IsAreaShaped area → (v : Point) (d e : Direction) → ¬ IsInCone v d e v → AreClear v d e (edges_of_rings (rings_of area)) → (g h : Loc) → IsGerm area v d g → IsGerm area v e h → g ≡ h
+pub germ_same : (area : Area) → IsAreaShaped area → (v : Point) (d e : Direction) → ¬ IsInCone v d e v
+    → AreClear v d e (edges_of_rings (rings_of area)) → (g h : Loc) → IsGerm area v d g → IsGerm area v e h → g ≡ h
 germ_same area shaped v d e pointed clear g h is_g is_h =
     let j = joined_between v d e pointed (edges_of_rings (rings_of area)) clear in
     let n = (is_g.from + is_h.from) + j.from in
@@ -198,16 +224,23 @@ germ_same area shaped v d e pointed clear g h is_g is_h =
 pub germ_one : (area : Area) (v : Point) (d : Direction) (g h : Loc) → IsGerm area v d g → IsGerm area v d h → g ≡ h
 germ_one area v d g h is_g is_h =
     let n = is_g.from + is_h.from in
-    sym (is_g.holds (suc n) (omega arith) (away_point v d n) (away_point_is v d n)) ∙ is_h.holds (suc n) (omega arith) (away_point v d n) (away_point_is v d n)
+    sym (is_g.holds (suc n) (omega arith) (away_point v d n) (away_point_is v d n))
+    ∙ is_h.holds (suc n) (omega arith) (away_point v d n) (away_point_is v d n)
 
-pub pair_germ_one : (a b : Figure) (rule : Rule) (v : Point) (d : Direction) (g h : Cell) → IsPairGerm a b rule v d g → IsPairGerm a b rule v d h → g ≡ h
+pub pair_germ_one : (a b : Figure) (rule : Rule) (v : Point) (d : Direction) (g h : Cell) → IsPairGerm a b rule v d g
+    → IsPairGerm a b rule v d h → g ≡ h
 pair_germ_one a b rule v d g h is_g is_h =
     let n = is_g.from + is_h.from in
     let p = is_g.holds (suc n) (omega arith) (away_point v d n) (away_point_is v d n) in
     let q = is_h.holds (suc n) (omega arith) (away_point v d n) (away_point_is v d n) in
     λ i. record { a = one_part p.in_a q.in_a i; b = one_part p.in_b q.in_b i }
 
-pub clear_from : (v : Point) (d e : Direction) (edges : List Seg) → ((place : ℕ) (f : Seg) → IsAtPlace edges place f → is_on_edge v f ≡ true → (¬ IsInCone v d e (point_of f.a)) × (¬ IsInCone v d e (point_of f.b))) → AreClear v d e edges
+pub clear_from : (v : Point) (d e : Direction) (edges : List Seg)
+    → ((place : ℕ) (f : Seg) → IsAtPlace edges place f → is_on_edge v f ≡ true → (¬ IsInCone v d e (point_of f.a))
+    × (¬ IsInCone v d e (point_of f.b))) → AreClear v d e edges
 clear_from v d e [] h = tt
-clear_from v d e (f ∷ edges) h =
-    (λ on. let ends = h 0 f refl on in record { first = ends.0; second = ends.1 }, clear_from v d e edges (λ place g is on. h (suc place) g is on))
+clear_from v d e (f ∷ edges) h = (
+  λ on. let ends = h 0 f refl on in record { first = ends.0; second = ends.1 },
+  clear_from v d e edges
+      (λ place g is on. h (suc place) g is on),
+)

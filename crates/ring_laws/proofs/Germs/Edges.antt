@@ -1,4 +1,5 @@
--- Germs and edges: which edges through v come between two directions, and that what lies between two directions free of them is met by no edge near v.
+-- Germs and edges: which edges through v come between two directions, and that what lies between two directions free of them is
+-- met by no edge near v.
 use Rattle.std.proofs.Common.{◌≡◌, ℕ, ◌+◌, ◌<◌, ℤ, pos, ◌+ℤ◌, ◌-ℤ◌, ◌*ℤ◌, neg_ℤ, ◌<ℤ◌, ◌≤ℤ◌, Bool, true, false, ◌&&◌, List, [], ◌∷◌, ap, refl, sym, ◌∙◌, arith}
 use Rattle.std.specs.Prelude.{int_lt}
 use Rattle.std.specs.Bool.{Decides}
@@ -32,22 +33,27 @@ unfolding rise
 rise_self v = omega (arith, linear)
 
 -- the edge's weights of v are s and t, those of m are u and w; x and y are the steps from v to the ends, z is that to m
-to_first : (s t u w k x y z c r : ℤ) → (s *ℤ x) +ℤ (t *ℤ y) ≡ pos 0 → k *ℤ z ≡ (u *ℤ x) +ℤ (w *ℤ y) → c *ℤ z ≡ r → (((u *ℤ t) -ℤ (w *ℤ s)) *ℤ c) *ℤ x ≡ (t *ℤ k) *ℤ r
+to_first : (s t u w k x y z c r : ℤ) → (s *ℤ x) +ℤ (t *ℤ y) ≡ pos 0 → k *ℤ z ≡ (u *ℤ x) +ℤ (w *ℤ y) → c *ℤ z ≡ r
+    → (((u *ℤ t) -ℤ (w *ℤ s)) *ℤ c) *ℤ x ≡ (t *ℤ k) *ℤ r
 to_first s t u w k x y z c r e f g =
     same_from (((var 2 ⊗ var 1 ⊖ var 3 ⊗ var 0) ⊗ var 8) ⊗ var 5) ((var 1 ⊗ var 4) ⊗ var 9) (s ∷ t ∷ u ∷ w ∷ k ∷ x ∷ y ∷ z ∷ c ∷ r ∷ [])
     (scaled (minus (var 3 ⊗ var 8)) (same (var 0 ⊗ var 5 ⊕ var 1 ⊗ var 6) (num (pos 0)) e)
     ⊞ scaled (minus (var 1 ⊗ var 8)) (same (var 4 ⊗ var 7) (var 2 ⊗ var 5 ⊕ var 3 ⊗ var 6) f)
     ⊞ scaled (var 1 ⊗ var 4) (same (var 8 ⊗ var 7) (var 9) g)) refl
 
-to_second : (s t u w k x y z c r : ℤ) → (s *ℤ x) +ℤ (t *ℤ y) ≡ pos 0 → k *ℤ z ≡ (u *ℤ x) +ℤ (w *ℤ y) → c *ℤ z ≡ r → (neg_ℤ ((u *ℤ t) -ℤ (w *ℤ s)) *ℤ c) *ℤ y ≡ (s *ℤ k) *ℤ r
+to_second : (s t u w k x y z c r : ℤ) → (s *ℤ x) +ℤ (t *ℤ y) ≡ pos 0 → k *ℤ z ≡ (u *ℤ x) +ℤ (w *ℤ y) → c *ℤ z ≡ r
+    → (neg_ℤ ((u *ℤ t) -ℤ (w *ℤ s)) *ℤ c) *ℤ y ≡ (s *ℤ k) *ℤ r
 to_second s t u w k x y z c r e f g =
-    same_from ((minus (var 2 ⊗ var 1 ⊖ var 3 ⊗ var 0) ⊗ var 8) ⊗ var 6) ((var 0 ⊗ var 4) ⊗ var 9) (s ∷ t ∷ u ∷ w ∷ k ∷ x ∷ y ∷ z ∷ c ∷ r ∷ [])
+    same_from ((minus (var 2 ⊗ var 1 ⊖ var 3 ⊗ var 0) ⊗ var 8) ⊗ var 6) ((var 0 ⊗ var 4) ⊗ var 9)
+    (s ∷ t ∷ u ∷ w ∷ k ∷ x ∷ y ∷ z ∷ c ∷ r ∷ [])
     (scaled (minus (var 2 ⊗ var 8)) (same (var 0 ⊗ var 5 ⊕ var 1 ⊗ var 6) (num (pos 0)) e)
     ⊞ scaled (minus (var 0 ⊗ var 8)) (same (var 4 ⊗ var 7) (var 2 ⊗ var 5 ⊕ var 3 ⊗ var 6) f)
     ⊞ scaled (var 0 ⊗ var 4) (same (var 8 ⊗ var 7) (var 9) g)) refl
 
 -- a cone holds what lies at a positive multiple of a step to one of its points
-longer : {v : Point} {d e : Direction} {m : Point} (c : IsInCone v d e m) (a : Point) (more f : ℤ) → pos 0 <ℤ more → pos 0 <ℤ f → (more *ℤ c.times) *ℤ shift v a ≡ f *ℤ ((c.i *ℤ d.x) +ℤ (c.j *ℤ e.x)) → (more *ℤ c.times) *ℤ rise v a ≡ f *ℤ ((c.i *ℤ d.y) +ℤ (c.j *ℤ e.y)) → IsInCone v d e a
+longer : {v : Point} {d e : Direction} {m : Point} (c : IsInCone v d e m) (a : Point) (more f : ℤ) → pos 0 <ℤ more → pos 0 <ℤ f
+    → (more *ℤ c.times) *ℤ shift v a ≡ f *ℤ ((c.i *ℤ d.x) +ℤ (c.j *ℤ e.x))
+    → (more *ℤ c.times) *ℤ rise v a ≡ f *ℤ ((c.i *ℤ d.y) +ℤ (c.j *ℤ e.y)) → IsInCone v d e a
 longer {v} {d} {e} {m} c a more f hm hf across above = record {
   i = f *ℤ c.i;
   j = f *ℤ c.j;
@@ -61,7 +67,8 @@ longer {v} {d} {e} {m} c a more f hm hf across above = record {
 }
   where
     spread : (f i x j y : ℤ) → f *ℤ ((i *ℤ x) +ℤ (j *ℤ y)) ≡ ((f *ℤ i) *ℤ x) +ℤ ((f *ℤ j) *ℤ y)
-    spread f i x j y = identity (var 0 ⊗ (var 1 ⊗ var 2 ⊕ var 3 ⊗ var 4)) ((var 0 ⊗ var 1) ⊗ var 2 ⊕ (var 0 ⊗ var 3) ⊗ var 4) (f ∷ i ∷ x ∷ j ∷ y ∷ []) refl
+    spread f i x j y = identity (var 0 ⊗ (var 1 ⊗ var 2 ⊕ var 3 ⊗ var 4)) ((var 0 ⊗ var 1) ⊗ var 2 ⊕ (var 0 ⊗ var 3) ⊗ var 4)
+        (f ∷ i ∷ x ∷ j ∷ y ∷ []) refl
 
     grown : (f i j : ℤ) → pos 0 <ℤ f → pos 0 <ℤ (i +ℤ j) → pos 0 <ℤ ((f *ℤ i) +ℤ (f *ℤ j))
     grown f i j hf h =
@@ -82,8 +89,10 @@ weight_above s t u w ht hw hs h = by_sign t (λ k. absurd (clash k)) (λ z. absu
     zero : t ≡ pos 0 → ⊥
     zero z = omega (arith, linear, h, ap (λ y. u *ℤ y) z, *ℤ-zero u, nonneg-*-nonneg hw hs)
 
-pub ends_decide : (v : Point) (d e : Direction) (a b m : Point) → ¬ IsInCone v d e v → IsOnSegment a b v → IsOnSegment a b m → AreEndsClear v d e a b → IsInCone v d e m → ⊥
-ends_decide v d e a b m pointed on_v on_m clear c = by_sign turned (λ h. clear.second (to_b h)) (λ z. pointed (at_v z)) (λ h. clear.first (to_a h))
+pub ends_decide : (v : Point) (d e : Direction) (a b m : Point) → ¬ IsInCone v d e v → IsOnSegment a b v → IsOnSegment a b m
+    → AreEndsClear v d e a b → IsInCone v d e m → ⊥
+ends_decide v d e a b m pointed on_v on_m clear c = by_sign turned (λ h. clear.second (to_b h)) (λ z. pointed (at_v z))
+    (λ h. clear.first (to_a h))
   where
     turned : ℤ
     turned = (on_m.s *ℤ on_v.t) -ℤ (on_m.t *ℤ on_v.s)
@@ -97,16 +106,22 @@ ends_decide v d e a b m pointed on_v on_m clear c = by_sign turned (λ h. clear.
     to_a : pos 0 <ℤ turned → IsInCone v d e a
     to_a h = longer c a turned (on_v.t *ℤ on_m.mix.times) h
         (pos-*-pos (weight_above on_v.s on_v.t on_m.s on_m.t on_v.mix.second on_m.mix.second on_v.mix.first h) on_m.mix.some)
-        (to_first on_v.s on_v.t on_m.s on_m.t on_m.mix.times (shift v a) (shift v b) (shift v m) c.times ((c.i *ℤ d.x) +ℤ (c.j *ℤ e.x)) still_x (shift_mix v on_m.mix) c.across)
-        (to_first on_v.s on_v.t on_m.s on_m.t on_m.mix.times (rise v a) (rise v b) (rise v m) c.times ((c.i *ℤ d.y) +ℤ (c.j *ℤ e.y)) still_y (rise_mix v on_m.mix) c.above)
+        (to_first on_v.s on_v.t on_m.s on_m.t on_m.mix.times (shift v a) (shift v b) (shift v m) c.times
+        ((c.i *ℤ d.x) +ℤ (c.j *ℤ e.x)) still_x (shift_mix v on_m.mix) c.across)
+        (to_first on_v.s on_v.t on_m.s on_m.t on_m.mix.times (rise v a) (rise v b) (rise v m) c.times
+        ((c.i *ℤ d.y) +ℤ (c.j *ℤ e.y)) still_y (rise_mix v on_m.mix) c.above)
 
     to_b : turned <ℤ pos 0 → IsInCone v d e b
     to_b h = longer c b (neg_ℤ turned) (on_v.s *ℤ on_m.mix.times) (omega (arith, linear, h))
-        (pos-*-pos (weight_above on_v.t on_v.s on_m.t on_m.s on_v.mix.first on_m.mix.first on_v.mix.second (omega (arith, linear, h))) on_m.mix.some)
-        (to_second on_v.s on_v.t on_m.s on_m.t on_m.mix.times (shift v a) (shift v b) (shift v m) c.times ((c.i *ℤ d.x) +ℤ (c.j *ℤ e.x)) still_x (shift_mix v on_m.mix) c.across)
-        (to_second on_v.s on_v.t on_m.s on_m.t on_m.mix.times (rise v a) (rise v b) (rise v m) c.times ((c.i *ℤ d.y) +ℤ (c.j *ℤ e.y)) still_y (rise_mix v on_m.mix) c.above)
+        (pos-*-pos (weight_above on_v.t on_v.s on_m.t on_m.s on_v.mix.first on_m.mix.first on_v.mix.second (omega (arith, linear, h)))
+        on_m.mix.some)
+        (to_second on_v.s on_v.t on_m.s on_m.t on_m.mix.times (shift v a) (shift v b) (shift v m) c.times
+        ((c.i *ℤ d.x) +ℤ (c.j *ℤ e.x)) still_x (shift_mix v on_m.mix) c.across)
+        (to_second on_v.s on_v.t on_m.s on_m.t on_m.mix.times (rise v a) (rise v b) (rise v m) c.times
+        ((c.i *ℤ d.y) +ℤ (c.j *ℤ e.y)) still_y (rise_mix v on_m.mix) c.above)
 
-    none_by : (s t k r : ℤ) → pos 0 ≤ℤ s → pos 0 ≤ℤ t → pos 0 <ℤ (s +ℤ t) → pos 0 <ℤ k → (s *ℤ k) *ℤ r ≡ pos 0 → (t *ℤ k) *ℤ r ≡ pos 0 → r ≡ pos 0
+    none_by : (s t k r : ℤ) → pos 0 ≤ℤ s → pos 0 ≤ℤ t → pos 0 <ℤ (s +ℤ t) → pos 0 <ℤ k → (s *ℤ k) *ℤ r ≡ pos 0 → (t *ℤ k) *ℤ r ≡ pos 0
+        → r ≡ pos 0
     none_by s t k r hs ht h hk f g =
         zero_factor ((s +ℤ t) *ℤ k) r (pos_nonzero (pos-*-pos h hk))
         (same_from (((var 0 ⊕ var 1) ⊗ var 2) ⊗ var 3) (num (pos 0)) (s ∷ t ∷ k ∷ r ∷ [])
@@ -122,12 +137,18 @@ ends_decide v d e a b m pointed on_v on_m clear c = by_sign turned (λ h. clear.
     at_v z =
         let r_x = (c.i *ℤ d.x) +ℤ (c.j *ℤ e.x) in
         let r_y = (c.i *ℤ d.y) +ℤ (c.j *ℤ e.y) in
-        let zero_x : r_x ≡ pos 0 = none_by on_v.s on_v.t on_m.mix.times r_x on_v.mix.first on_v.mix.second (some_weight on_v.mix) on_m.mix.some
-        (sym (to_second on_v.s on_v.t on_m.s on_m.t on_m.mix.times (shift v a) (shift v b) (shift v m) c.times r_x still_x (shift_mix v on_m.mix) c.across) ∙ none_right c.times (shift v b) z)
-        (sym (to_first on_v.s on_v.t on_m.s on_m.t on_m.mix.times (shift v a) (shift v b) (shift v m) c.times r_x still_x (shift_mix v on_m.mix) c.across) ∙ none_left c.times (shift v a) z) in
-        let zero_y : r_y ≡ pos 0 = none_by on_v.s on_v.t on_m.mix.times r_y on_v.mix.first on_v.mix.second (some_weight on_v.mix) on_m.mix.some
-        (sym (to_second on_v.s on_v.t on_m.s on_m.t on_m.mix.times (rise v a) (rise v b) (rise v m) c.times r_y still_y (rise_mix v on_m.mix) c.above) ∙ none_right c.times (rise v b) z)
-        (sym (to_first on_v.s on_v.t on_m.s on_m.t on_m.mix.times (rise v a) (rise v b) (rise v m) c.times r_y still_y (rise_mix v on_m.mix) c.above) ∙ none_left c.times (rise v a) z) in
+        let zero_x : r_x ≡ pos 0 = none_by on_v.s on_v.t on_m.mix.times r_x on_v.mix.first on_v.mix.second
+        (some_weight on_v.mix) on_m.mix.some
+        (sym (to_second on_v.s on_v.t on_m.s on_m.t on_m.mix.times (shift v a) (shift v b) (shift v m) c.times r_x still_x
+        (shift_mix v on_m.mix) c.across) ∙ none_right c.times (shift v b) z)
+        (sym (to_first on_v.s on_v.t on_m.s on_m.t on_m.mix.times (shift v a) (shift v b) (shift v m) c.times r_x still_x
+        (shift_mix v on_m.mix) c.across) ∙ none_left c.times (shift v a) z) in
+        let zero_y : r_y ≡ pos 0 = none_by on_v.s on_v.t on_m.mix.times r_y on_v.mix.first on_v.mix.second
+        (some_weight on_v.mix) on_m.mix.some
+        (sym (to_second on_v.s on_v.t on_m.s on_m.t on_m.mix.times (rise v a) (rise v b) (rise v m) c.times r_y still_y
+        (rise_mix v on_m.mix) c.above) ∙ none_right c.times (rise v b) z)
+        (sym (to_first on_v.s on_v.t on_m.s on_m.t on_m.mix.times (rise v a) (rise v b) (rise v m) c.times r_y still_y
+        (rise_mix v on_m.mix) c.above) ∙ none_left c.times (rise v a) z) in
         record {
           i = c.i;
           j = c.j;
@@ -159,13 +180,15 @@ AreClear v d e (f ∷ edges) = (is_on_edge v f ≡ true → AreEndsClear v d e (
 pub on_true : {p : Point} {f : Seg} → is_on_edge p f ≡ true → IsOnSegment (point_of f.a) (point_of f.b) p
 on_true {p} {f} h = (Decides-is_on_segment (point_of f.a) (point_of f.b) p).0 h
 
-missed_between : (v : Point) (d e : Direction) → ¬ IsInCone v d e v → (m : Point) → IsInCone v d e m → (edges : List Seg) → AreClear v d e edges → HoldBoth v m edges → is_on_edges m edges ≡ false
+missed_between : (v : Point) (d e : Direction) → ¬ IsInCone v d e v → (m : Point) → IsInCone v d e m → (edges : List Seg)
+    → AreClear v d e edges → HoldBoth v m edges → is_on_edges m edges ≡ false
 missed_between v d e pointed m c [] clear near = refl
 missed_between v d e pointed m c (f ∷ edges) clear near =
     or_from (is_on_edge m f) (is_on_edges m edges) (by_v (is_on_edge v f) refl) (missed_between v d e pointed m c edges clear.1 near.1)
   where
     by_v : (b : Bool) → is_on_edge v f ≡ b → is_on_edge m f ≡ false
-    by_v true h = false_from_ne_true (is_on_edge m f) (λ k. ends_decide v d e (point_of f.a) (point_of f.b) m pointed (on_true h) (on_true k) (clear.0 h) c)
+    by_v true h = false_from_ne_true (is_on_edge m f)
+        (λ k. ends_decide v d e (point_of f.a) (point_of f.b) m pointed (on_true h) (on_true k) (clear.0 h) c)
     by_v false h = near.0 h
 
 -- from some n on, the segments between the points v + d/n and the points v + e/n meet no edge
@@ -221,17 +244,20 @@ cone_toward v d a z h = record {
   where
     along : (x y s r : ℤ) → (x *ℤ r) -ℤ (y *ℤ s) ≡ pos 0 → ((x *ℤ x) +ℤ (y *ℤ y)) *ℤ s ≡ (((x *ℤ s) +ℤ (y *ℤ r)) *ℤ x) +ℤ (pos 0 *ℤ x)
     along x y s r e =
-        same_from ((var 0 ⊗ var 0 ⊕ var 1 ⊗ var 1) ⊗ var 2) ((var 0 ⊗ var 2 ⊕ var 1 ⊗ var 3) ⊗ var 0 ⊕ num (pos 0) ⊗ var 0) (x ∷ y ∷ s ∷ r ∷ [])
+        same_from ((var 0 ⊗ var 0 ⊕ var 1 ⊗ var 1) ⊗ var 2) ((var 0 ⊗ var 2 ⊕ var 1 ⊗ var 3) ⊗ var 0 ⊕ num (pos 0) ⊗ var 0)
+        (x ∷ y ∷ s ∷ r ∷ [])
         (scaled (minus (var 1)) (same (var 0 ⊗ var 3 ⊖ var 1 ⊗ var 2) (num (pos 0)) e)) refl
 
     along' : (x y s r : ℤ) → (x *ℤ r) -ℤ (y *ℤ s) ≡ pos 0 → ((x *ℤ x) +ℤ (y *ℤ y)) *ℤ r ≡ (((x *ℤ s) +ℤ (y *ℤ r)) *ℤ y) +ℤ (pos 0 *ℤ y)
     along' x y s r e =
-        same_from ((var 0 ⊗ var 0 ⊕ var 1 ⊗ var 1) ⊗ var 3) ((var 0 ⊗ var 2 ⊕ var 1 ⊗ var 3) ⊗ var 1 ⊕ num (pos 0) ⊗ var 1) (x ∷ y ∷ s ∷ r ∷ [])
+        same_from ((var 0 ⊗ var 0 ⊕ var 1 ⊗ var 1) ⊗ var 3) ((var 0 ⊗ var 2 ⊕ var 1 ⊗ var 3) ⊗ var 1 ⊕ num (pos 0) ⊗ var 1)
+        (x ∷ y ∷ s ∷ r ∷ [])
         (scaled (var 0) (same (var 0 ⊗ var 3 ⊖ var 1 ⊗ var 2) (num (pos 0)) e)) refl
 
 toward_cone : (v : Point) (d : Direction) (a : Point) → IsInCone v d d a → (cross_of v d a ≡ pos 0) × (pos 0 <ℤ dot_of v d a)
 unfolding cross_of dot_of
-toward_cone v d a c = (level d.x d.y (shift v a) (rise v a) c.across c.above, ahead d.x d.y (shift v a) (rise v a) c.across c.above (moving d))
+toward_cone v d a c =
+    (level d.x d.y (shift v a) (rise v a) c.across c.above, ahead d.x d.y (shift v a) (rise v a) c.across c.above (moving d))
   where
     level : (x y s r : ℤ) → c.times *ℤ s ≡ (c.i *ℤ x) +ℤ (c.j *ℤ x) → c.times *ℤ r ≡ (c.i *ℤ y) +ℤ (c.j *ℤ y) → (x *ℤ r) -ℤ (y *ℤ s) ≡ pos 0
     level x y s r e f =
@@ -240,7 +266,8 @@ toward_cone v d a c = (level d.x d.y (shift v a) (rise v a) c.across c.above, ah
         (scaled (var 3) (same (var 0 ⊗ var 6) (var 1 ⊗ var 4 ⊕ var 2 ⊗ var 4) f)
         ⊞ scaled (minus (var 4)) (same (var 0 ⊗ var 5) (var 1 ⊗ var 3 ⊕ var 2 ⊗ var 3) e)) refl)
 
-    ahead : (x y s r : ℤ) → c.times *ℤ s ≡ (c.i *ℤ x) +ℤ (c.j *ℤ x) → c.times *ℤ r ≡ (c.i *ℤ y) +ℤ (c.j *ℤ y) → pos 0 <ℤ ((x *ℤ x) +ℤ (y *ℤ y)) → pos 0 <ℤ ((x *ℤ s) +ℤ (y *ℤ r))
+    ahead : (x y s r : ℤ) → c.times *ℤ s ≡ (c.i *ℤ x) +ℤ (c.j *ℤ x) → c.times *ℤ r ≡ (c.i *ℤ y) +ℤ (c.j *ℤ y)
+        → pos 0 <ℤ ((x *ℤ x) +ℤ (y *ℤ y)) → pos 0 <ℤ ((x *ℤ s) +ℤ (y *ℤ r))
     ahead x y s r e f h =
         less_by (num (pos 0)) (var 3 ⊗ var 5 ⊕ var 4 ⊗ var 6) (c.times ∷ c.i ∷ c.j ∷ x ∷ y ∷ s ∷ r ∷ [])
         (λ denied. denied ⊠ positive (var 0) c.positive ⊞ positive (var 1 ⊕ var 2) c.some ⊠ positive (var 3 ⊗ var 3 ⊕ var 4 ⊗ var 4) h
@@ -251,4 +278,5 @@ pub Decides-is_toward : (v : Point) (d : Direction) (a : Point) → Decides (is_
 unfolding is_toward
 Decides-is_toward v d a =
     Decides-like (int_eq (cross_of v d a) (pos 0) && int_lt (pos 0) (dot_of v d a)) (λ h. cone_toward v d a h.0 h.1) (toward_cone v d a)
-    (Decides-and (int_eq (cross_of v d a) (pos 0)) (int_lt (pos 0) (dot_of v d a)) (Decides-int_eq (cross_of v d a) (pos 0)) (Decides-int_lt (pos 0) (dot_of v d a)))
+    (Decides-and (int_eq (cross_of v d a) (pos 0)) (int_lt (pos 0) (dot_of v d a)) (Decides-int_eq (cross_of v d a) (pos 0))
+    (Decides-int_lt (pos 0) (dot_of v d a)))

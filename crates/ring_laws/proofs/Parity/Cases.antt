@@ -1,4 +1,7 @@
--- How the ray to the right of a point crosses an edge, where that point moves along a segment: what the heights of the edge's ends above the segment's ends tell of the turns. The segment goes from p to q and isn't falling, the edge from a to b. Here pa, pb, qa, qb are the heights of a and b above p and q, h that of q above p and ab that of b above a; sa and sb are the turns of p, q with a and b, and tp and tq those of a, b with p and q.
+-- How the ray to the right of a point crosses an edge, where that point moves along a segment: what the heights of the edge's
+-- ends above the segment's ends tell of the turns. The segment goes from p to q and isn't falling, the edge from a to b. Here
+-- pa, pb, qa, qb are the heights of a and b above p and q, h that of q above p and ab that of b above a; sa and sb are the
+-- turns of p, q with a and b, and tp and tq those of a, b with p and q.
 use Rattle.std.proofs.Common.{◌≡◌, ℤ, pos, ◌+ℤ◌, ◌-ℤ◌, ◌*ℤ◌, neg_ℤ, ◌<ℤ◌, ◌≤ℤ◌, [], ◌∷◌, refl, sym, arith}
 use Rattle.std.proofs.lemmas.Int.{by_lt_z}
 use lib.IntN.{*ℤ_comm}
@@ -46,7 +49,8 @@ negated z h = omega (arith, linear, h)
 negated' : (z : ℤ) → pos 0 <ℤ z → neg_ℤ z <ℤ pos 0
 negated' z h = omega (arith, linear, h)
 
-pub mirrored : {pa pb qa qb h ab sa sb tp tq : ℤ} → Heights pa pb qa qb h ab sa sb tp tq → Heights pb pa qb qa h (neg_ℤ ab) sb sa (neg_ℤ tp) (neg_ℤ tq)
+pub mirrored : {pa pb qa qb h ab sa sb tp tq : ℤ} → Heights pa pb qa qb h ab sa sb tp tq
+    → Heights pb pa qb qa h (neg_ℤ ab) sb sa (neg_ℤ tp) (neg_ℤ tq)
 mirrored {pa} {pb} {qa} {qb} {h} {ab} {sa} {sb} {tp} {tq} e = record {
   level = e.level;
   of_p = mirror_one tp h sb pa sa pb e.of_p;
@@ -77,47 +81,66 @@ falls' s k h hk = by_lt_z (pos 0) s (λ d. absurd (<ℤ_irrefl (<ℤ-≤ℤ_tran
 climbs' : (s k : ℤ) → (s *ℤ k) <ℤ pos 0 → k ≤ℤ pos 0 → pos 0 ≤ℤ s
 climbs' s k h hk = by_lt_z s (pos 0) (λ d. absurd (<ℤ_irrefl (≤ℤ-<ℤ_trans (nonpos-*-nonpos (<ℤ_weaken d) hk) h))) (λ d. d)
 
--- ---- the impossible cases, by the bands of height: low is at most as high as p, mid is higher than p and at most as high as q, high is higher than q
-pub low_high : {pa pb qa qb h ab sa sb tp tq : ℤ} → Heights pa pb qa qb h ab sa sb tp tq → pa ≤ℤ pos 0 → pos 0 <ℤ pb → qa ≤ℤ pos 0 → pos 0 <ℤ qb → pos 0 <ℤ tp → tq ≤ℤ pos 0 → AreWeights sa sb tp tq
+-- ---- the impossible cases, by the bands of height: low is at most as high as p, mid is higher than p and at most as high as
+-- q, high is higher than q
+pub low_high : {pa pb qa qb h ab sa sb tp tq : ℤ} → Heights pa pb qa qb h ab sa sb tp tq → pa ≤ℤ pos 0 → pos 0 <ℤ pb → qa ≤ℤ pos 0
+    → pos 0 <ℤ qb → pos 0 <ℤ tp → tq ≤ℤ pos 0 → AreWeights sa sb tp tq
 low_high {pa} {pb} {qa} {qb} {h} {ab} {sa} {sb} {tp} {tq} e ha hb ka kb p q =
-    let f : sa ≤ℤ pos 0 = falls sa ab (tp *ℤ qa) (tq *ℤ pa) e.of_a (e.rising_ab ha hb) (nonneg-*-nonpos (<ℤ_weaken p) ka) (nonpos-*-nonpos q ha) in
-    let g : pos 0 ≤ℤ sb = climbs sb ab (tp *ℤ qb) (tq *ℤ pb) e.of_b (e.rising_ab ha hb) (nonneg-*-nonneg (<ℤ_weaken p) (<ℤ_weaken kb)) (nonpos-*-nonneg q (<ℤ_weaken hb)) in
+    let f : sa ≤ℤ pos 0 = falls sa ab (tp *ℤ qa) (tq *ℤ pa) e.of_a (e.rising_ab ha hb) (nonneg-*-nonpos (<ℤ_weaken p) ka)
+    (nonpos-*-nonpos q ha) in
+    let g : pos 0 ≤ℤ sb = climbs sb ab (tp *ℤ qb) (tq *ℤ pb) e.of_b (e.rising_ab ha hb) (nonneg-*-nonneg (<ℤ_weaken p) (<ℤ_weaken kb))
+    (nonpos-*-nonneg q (<ℤ_weaken hb)) in
     record { first = f; second = g; third = <ℤ_weaken p; fourth = q; some = omega (arith, linear, f, g, p, q) }
 
-pub low_high' : {pa pb qa qb h ab sa sb tp tq : ℤ} → Heights pa pb qa qb h ab sa sb tp tq → pa ≤ℤ pos 0 → pos 0 <ℤ pb → qa ≤ℤ pos 0 → pos 0 <ℤ qb → tp ≤ℤ pos 0 → pos 0 <ℤ tq → AreWeights sb sa tq tp
+pub low_high' : {pa pb qa qb h ab sa sb tp tq : ℤ} → Heights pa pb qa qb h ab sa sb tp tq → pa ≤ℤ pos 0 → pos 0 <ℤ pb → qa ≤ℤ pos 0
+    → pos 0 <ℤ qb → tp ≤ℤ pos 0 → pos 0 <ℤ tq → AreWeights sb sa tq tp
 low_high' {pa} {pb} {qa} {qb} {h} {ab} {sa} {sb} {tp} {tq} e ha hb ka kb p q =
-    let f : sb ≤ℤ pos 0 = falls sb ab (tp *ℤ qb) (tq *ℤ pb) e.of_b (e.rising_ab ha hb) (nonpos-*-nonneg p (<ℤ_weaken kb)) (nonneg-*-nonneg (<ℤ_weaken q) (<ℤ_weaken hb)) in
-    let g : pos 0 ≤ℤ sa = climbs sa ab (tp *ℤ qa) (tq *ℤ pa) e.of_a (e.rising_ab ha hb) (nonpos-*-nonpos p ka) (nonneg-*-nonpos (<ℤ_weaken q) ha) in
+    let f : sb ≤ℤ pos 0 = falls sb ab (tp *ℤ qb) (tq *ℤ pb) e.of_b (e.rising_ab ha hb) (nonpos-*-nonneg p (<ℤ_weaken kb))
+    (nonneg-*-nonneg (<ℤ_weaken q) (<ℤ_weaken hb)) in
+    let g : pos 0 ≤ℤ sa = climbs sa ab (tp *ℤ qa) (tq *ℤ pa) e.of_a (e.rising_ab ha hb) (nonpos-*-nonpos p ka)
+    (nonneg-*-nonpos (<ℤ_weaken q) ha) in
     record { first = f; second = g; third = <ℤ_weaken q; fourth = p; some = omega (arith, linear, f, g, p, q) }
 
-pub low_mid : {pa pb qa qb h ab sa sb tp tq : ℤ} → Heights pa pb qa qb h ab sa sb tp tq → pa ≤ℤ pos 0 → pos 0 <ℤ pb → qa ≤ℤ pos 0 → qb ≤ℤ pos 0 → pos 0 <ℤ tp → pos 0 ≤ℤ sb → AreWeights sa sb tp tq
+pub low_mid : {pa pb qa qb h ab sa sb tp tq : ℤ} → Heights pa pb qa qb h ab sa sb tp tq → pa ≤ℤ pos 0 → pos 0 <ℤ pb → qa ≤ℤ pos 0
+    → qb ≤ℤ pos 0 → pos 0 <ℤ tp → pos 0 ≤ℤ sb → AreWeights sa sb tp tq
 low_mid {pa} {pb} {qa} {qb} {h} {ab} {sa} {sb} {tp} {tq} e ha hb ka kb p s =
-    let f : sa ≤ℤ pos 0 = falls sa pb (sb *ℤ pa) (tp *ℤ h) (exchanged tp h sb pa sa pb e.of_p) hb (nonneg-*-nonpos s ha) (nonneg-*-nonneg (<ℤ_weaken p) e.level) in
+    let f : sa ≤ℤ pos 0 = falls sa pb (sb *ℤ pa) (tp *ℤ h) (exchanged tp h sb pa sa pb e.of_p) hb (nonneg-*-nonpos s ha)
+    (nonneg-*-nonneg (<ℤ_weaken p) e.level) in
     let g : tq ≤ℤ pos 0 = falls tq h (sb *ℤ qa) (sa *ℤ qb) e.of_q (e.rising_b hb kb) (nonneg-*-nonpos s ka) (nonpos-*-nonpos f kb) in
     record { first = f; second = s; third = <ℤ_weaken p; fourth = g; some = omega (arith, linear, f, g, p, s) }
 
-pub low_mid' : {pa pb qa qb h ab sa sb tp tq : ℤ} → Heights pa pb qa qb h ab sa sb tp tq → pa ≤ℤ pos 0 → pos 0 <ℤ pb → qa ≤ℤ pos 0 → qb ≤ℤ pos 0 → tp ≤ℤ pos 0 → sb <ℤ pos 0 → AreWeights sb sa tq tp
+pub low_mid' : {pa pb qa qb h ab sa sb tp tq : ℤ} → Heights pa pb qa qb h ab sa sb tp tq → pa ≤ℤ pos 0 → pos 0 <ℤ pb → qa ≤ℤ pos 0
+    → qb ≤ℤ pos 0 → tp ≤ℤ pos 0 → sb <ℤ pos 0 → AreWeights sb sa tq tp
 low_mid' {pa} {pb} {qa} {qb} {h} {ab} {sa} {sb} {tp} {tq} e ha hb ka kb p s =
-    let f : pos 0 ≤ℤ sa = climbs sa pb (sb *ℤ pa) (tp *ℤ h) (exchanged tp h sb pa sa pb e.of_p) hb (nonpos-*-nonpos (<ℤ_weaken s) ha) (nonpos-*-nonneg p e.level) in
-    let g : pos 0 ≤ℤ tq = climbs tq h (sb *ℤ qa) (sa *ℤ qb) e.of_q (e.rising_b hb kb) (nonpos-*-nonpos (<ℤ_weaken s) ka) (nonneg-*-nonpos f kb) in
+    let f : pos 0 ≤ℤ sa = climbs sa pb (sb *ℤ pa) (tp *ℤ h) (exchanged tp h sb pa sa pb e.of_p) hb (nonpos-*-nonpos (<ℤ_weaken s) ha)
+    (nonpos-*-nonneg p e.level) in
+    let g : pos 0 ≤ℤ tq = climbs tq h (sb *ℤ qa) (sa *ℤ qb) e.of_q (e.rising_b hb kb) (nonpos-*-nonpos (<ℤ_weaken s) ka)
+    (nonneg-*-nonpos f kb) in
     record { first = <ℤ_weaken s; second = f; third = g; fourth = p; some = omega (arith, linear, f, g, p, s) }
 
-pub mid_high : {pa pb qa qb h ab sa sb tp tq : ℤ} → Heights pa pb qa qb h ab sa sb tp tq → pos 0 <ℤ pa → pos 0 <ℤ pb → qa ≤ℤ pos 0 → pos 0 <ℤ qb → pos 0 <ℤ tq → pos 0 ≤ℤ sa → AreWeights sb sa tq tp
+pub mid_high : {pa pb qa qb h ab sa sb tp tq : ℤ} → Heights pa pb qa qb h ab sa sb tp tq → pos 0 <ℤ pa → pos 0 <ℤ pb → qa ≤ℤ pos 0
+    → pos 0 <ℤ qb → pos 0 <ℤ tq → pos 0 ≤ℤ sa → AreWeights sb sa tq tp
 mid_high {pa} {pb} {qa} {qb} {h} {ab} {sa} {sb} {tp} {tq} e ha hb ka kb q s =
     let i : pos 0 <ℤ (sb *ℤ qa) = omega (arith, linear, e.of_q, pos-*-pos q (e.rising_a ha ka), nonneg-*-nonneg s (<ℤ_weaken kb)) in
     let f : sb ≤ℤ pos 0 = falls' sb qa i ka in
-    let g : tp ≤ℤ pos 0 = falls tp h (sb *ℤ pa) (sa *ℤ pb) e.of_p (e.rising_a ha ka) (nonpos-*-nonneg f (<ℤ_weaken ha)) (nonneg-*-nonneg s (<ℤ_weaken hb)) in
+    let g : tp ≤ℤ pos 0 = falls tp h (sb *ℤ pa) (sa *ℤ pb) e.of_p (e.rising_a ha ka) (nonpos-*-nonneg f (<ℤ_weaken ha))
+    (nonneg-*-nonneg s (<ℤ_weaken hb)) in
     record { first = f; second = s; third = <ℤ_weaken q; fourth = g; some = omega (arith, linear, f, g, q, s) }
 
-pub mid_high' : {pa pb qa qb h ab sa sb tp tq : ℤ} → Heights pa pb qa qb h ab sa sb tp tq → pos 0 <ℤ pa → pos 0 <ℤ pb → qa ≤ℤ pos 0 → pos 0 <ℤ qb → tq ≤ℤ pos 0 → sa <ℤ pos 0 → AreWeights sa sb tp tq
+pub mid_high' : {pa pb qa qb h ab sa sb tp tq : ℤ} → Heights pa pb qa qb h ab sa sb tp tq → pos 0 <ℤ pa → pos 0 <ℤ pb → qa ≤ℤ pos 0
+    → pos 0 <ℤ qb → tq ≤ℤ pos 0 → sa <ℤ pos 0 → AreWeights sa sb tp tq
 mid_high' {pa} {pb} {qa} {qb} {h} {ab} {sa} {sb} {tp} {tq} e ha hb ka kb q s =
     let i : (sb *ℤ qa) <ℤ pos 0 = omega (arith, linear, e.of_q, nonpos-*-nonneg q e.level, neg-*-pos s kb) in
     let f : pos 0 ≤ℤ sb = climbs' sb qa i ka in
-    let g : pos 0 ≤ℤ tp = climbs tp h (sb *ℤ pa) (sa *ℤ pb) e.of_p (e.rising_a ha ka) (nonneg-*-nonneg f (<ℤ_weaken ha)) (nonpos-*-nonneg (<ℤ_weaken s) (<ℤ_weaken hb)) in
+    let g : pos 0 ≤ℤ tp = climbs tp h (sb *ℤ pa) (sa *ℤ pb) e.of_p (e.rising_a ha ka) (nonneg-*-nonneg f (<ℤ_weaken ha))
+    (nonpos-*-nonneg (<ℤ_weaken s) (<ℤ_weaken hb)) in
     record { first = <ℤ_weaken s; second = f; third = g; fourth = q; some = omega (arith, linear, f, g, q, s) }
 
-pub mid_mid : {pa pb qa qb h ab sa sb tp tq : ℤ} → Heights pa pb qa qb h ab sa sb tp tq → pos 0 <ℤ pa → pos 0 <ℤ pb → qa ≤ℤ pos 0 → qb ≤ℤ pos 0 → sa <ℤ pos 0 → pos 0 ≤ℤ sb → AreWeights sa sb tp tq
+pub mid_mid : {pa pb qa qb h ab sa sb tp tq : ℤ} → Heights pa pb qa qb h ab sa sb tp tq → pos 0 <ℤ pa → pos 0 <ℤ pb → qa ≤ℤ pos 0
+    → qb ≤ℤ pos 0 → sa <ℤ pos 0 → pos 0 ≤ℤ sb → AreWeights sa sb tp tq
 mid_mid {pa} {pb} {qa} {qb} {h} {ab} {sa} {sb} {tp} {tq} e ha hb ka kb r s =
-    let f : pos 0 ≤ℤ tp = climbs tp h (sb *ℤ pa) (sa *ℤ pb) e.of_p (e.rising_a ha ka) (nonneg-*-nonneg s (<ℤ_weaken ha)) (nonpos-*-nonneg (<ℤ_weaken r) (<ℤ_weaken hb)) in
-    let g : tq ≤ℤ pos 0 = falls tq h (sb *ℤ qa) (sa *ℤ qb) e.of_q (e.rising_a ha ka) (nonneg-*-nonpos s ka) (nonpos-*-nonpos (<ℤ_weaken r) kb) in
+    let f : pos 0 ≤ℤ tp = climbs tp h (sb *ℤ pa) (sa *ℤ pb) e.of_p (e.rising_a ha ka) (nonneg-*-nonneg s (<ℤ_weaken ha))
+    (nonpos-*-nonneg (<ℤ_weaken r) (<ℤ_weaken hb)) in
+    let g : tq ≤ℤ pos 0 = falls tq h (sb *ℤ qa) (sa *ℤ qb) e.of_q (e.rising_a ha ka) (nonneg-*-nonpos s ka)
+    (nonpos-*-nonpos (<ℤ_weaken r) kb) in
     record { first = <ℤ_weaken r; second = s; third = f; fourth = g; some = omega (arith, linear, f, g, r, s) }

@@ -1,4 +1,5 @@
--- Across an edge: where the segment from p to q cuts the edge from a to b, away from all four ends, the ray of p crosses the edge once more or once less than that of q, but for the ends beside the segment.
+-- Across an edge: where the segment from p to q cuts the edge from a to b, away from all four ends, the ray of p crosses the
+-- edge once more or once less than that of q, but for the ends beside the segment.
 use Rattle.std.proofs.Common.{◌≡◌, ℤ, pos, ◌+ℤ◌, ◌-ℤ◌, ◌*ℤ◌, neg_ℤ, ◌<ℤ◌, ◌≤ℤ◌, Bool, true, false, not, ◌&&◌, [], ◌∷◌, ap, refl, sym, ◌∙◌, subst, arith}
 use Rattle.std.specs.Prelude.{int_lt}
 use Rattle.std.proofs.lemmas.Int.{by_lt_z}
@@ -71,7 +72,9 @@ crosses_none l m t h = ap (crosses_from l m) h ∙ none l m
 beside_by_sign : (l m s : Bool) (t : ℤ) → HasSign s t → beside_by l m t ≡ (not l && (m && not s))
 beside_by_sign l m s t h = ap (λ z. not l && (m && z)) (test_neg s t h)
 
-flip_tests : (la ma lb mb s : Bool) → (la ≡ true → ma ≡ false → ⊥) → (lb ≡ true → mb ≡ false → ⊥) → (la ≡ true → lb ≡ true → ⊥) → (ma ≡ false → mb ≡ false → ⊥) → crossing_of la lb s ≡ not (differ (crossing_of ma mb (not s)) (differ (not la && (ma && s)) (not lb && (mb && not s))))
+flip_tests : (la ma lb mb s : Bool) → (la ≡ true → ma ≡ false → ⊥) → (lb ≡ true → mb ≡ false → ⊥) → (la ≡ true → lb ≡ true → ⊥)
+    → (ma ≡ false → mb ≡ false → ⊥) → crossing_of la lb s ≡ not
+    (differ (crossing_of ma mb (not s)) (differ (not la && (ma && s)) (not lb && (mb && not s))))
 flip_tests true false lb mb s f g h k = absurd (f refl refl)
 flip_tests la ma true false s f g h k = absurd (g refl refl)
 flip_tests true true true true s f g h k = absurd (h refl refl)
@@ -104,9 +107,19 @@ turn_by_heights a b p =
 level_turn : (a b p : Point) → rise p a ≡ pos 0 → rise p b ≡ pos 0 → turn a b p ≡ pos 0
 level_turn a b p h k =
     zero_factor p.w (turn a b p) (pos_nonzero p.heavy)
-    (omega (arith, linear, turn_by_heights a b p, ap (λ z. shift p a *ℤ z) k, ap (λ z. shift p b *ℤ z) h, *ℤ-zero (shift p a), *ℤ-zero (shift p b)))
+    (omega (
+      arith,
+      linear,
+      turn_by_heights a b p,
+      ap (λ z. shift p a *ℤ z) k,
+      ap (λ z. shift p b *ℤ z) h,
+      *ℤ-zero (shift p a),
+      *ℤ-zero
+          (shift p b),
+    ))
 
-both_low_signs : {pa pb qa qb h ab sa sb tp tq : ℤ} → Heights pa pb qa qb h ab sa sb tp tq → pos 0 <ℤ tp → pos 0 <ℤ sb → sa <ℤ pos 0 → pa ≤ℤ pos 0 → pb ≤ℤ pos 0 → (pa ≡ pos 0) × (pb ≡ pos 0)
+both_low_signs : {pa pb qa qb h ab sa sb tp tq : ℤ} → Heights pa pb qa qb h ab sa sb tp tq → pos 0 <ℤ tp → pos 0 <ℤ sb → sa <ℤ pos 0
+    → pa ≤ℤ pos 0 → pb ≤ℤ pos 0 → (pa ≡ pos 0) × (pb ≡ pos 0)
 both_low_signs {pa} {pb} {qa} {qb} {h} {ab} {sa} {sb} {tp} {tq} e ht hb hs la lb =
     let up : pos 0 ≤ℤ (tp *ℤ h) = nonneg-*-nonneg (<ℤ_weaken ht) e.level in
     let x : (sb *ℤ pa) ≤ℤ pos 0 = nonneg-*-nonpos (<ℤ_weaken hb) la in
@@ -120,7 +133,8 @@ both_low a b p q level cut la lb =
     let zero = both_low_signs (heights a b p q level) cut.first cut.fourth cut.third la lb in
     pos_nonzero cut.first (level_turn a b p zero.0 zero.1)
 
-both_high_signs : {pa pb qa qb h ab sa sb tp tq : ℤ} → Heights pa pb qa qb h ab sa sb tp tq → tq <ℤ pos 0 → pos 0 <ℤ sb → sa <ℤ pos 0 → pos 0 <ℤ qa → pos 0 <ℤ qb → ⊥
+both_high_signs : {pa pb qa qb h ab sa sb tp tq : ℤ} → Heights pa pb qa qb h ab sa sb tp tq → tq <ℤ pos 0 → pos 0 <ℤ sb → sa <ℤ pos 0
+    → pos 0 <ℤ qa → pos 0 <ℤ qb → ⊥
 both_high_signs {pa} {pb} {qa} {qb} {h} {ab} {sa} {sb} {tp} {tq} e ht hb hs la lb =
     omega (arith, linear, nonpos-*-nonneg (<ℤ_weaken ht) e.level, pos-*-pos hb la, neg-*-pos hs lb, e.of_q)
 
@@ -149,7 +163,8 @@ none_high true a b p q level cut la lb = both_high a b p q level cut la lb
 none_high false a b p q level cut la lb = both_high b a p q level (turned_cut false cut) lb la
 
 -- ---- the ray of p crosses a cut edge where that of q doesn't, but for the ends beside the segment
-pub flip : (s : Bool) (a b p q : Point) → pos 0 ≤ℤ rise p q → IsCut s a b p q → crosses_between p a b ≡ not (differ (crosses_between q a b) (differ (is_beside p q a) (is_beside p q b)))
+pub flip : (s : Bool) (a b p q : Point) → pos 0 ≤ℤ rise p q → IsCut s a b p q
+    → crosses_between p a b ≡ not (differ (crosses_between q a b) (differ (is_beside p q a) (is_beside p q b)))
 flip s a b p q level cut =
     crosses_by_sign (is_low p a) (is_low p b) s (turn a b p) cut.first
     ∙ flip_tests (is_low p a) (is_low q a) (is_low p b) (is_low q b) s
@@ -167,7 +182,8 @@ flip s a b p q level cut =
     crosses_q = sym (crosses_by_sign (is_low q a) (is_low q b) (not s) (turn a b q) cut.second)
 
     beside_a : (not (is_low p a) && (is_low q a && s)) ≡ is_beside p q a
-    beside_a = sym (beside_by_sign (is_low p a) (is_low q a) (not s) (turn p q a) cut.third ∙ ap (λ z. not (is_low p a) && (is_low q a && z)) (not-not s))
+    beside_a = sym (beside_by_sign (is_low p a) (is_low q a) (not s) (turn p q a) cut.third
+        ∙ ap (λ z. not (is_low p a) && (is_low q a && z)) (not-not s))
 
     beside_b : (not (is_low p b) && (is_low q b && not s)) ≡ is_beside p q b
     beside_b = sym (beside_by_sign (is_low p b) (is_low q b) s (turn p q b) cut.fourth)
@@ -187,7 +203,8 @@ turned_rise p q h = omega (arith, linear, h)
 
 -- ---- a cut, from a common point
 -- the turn with a mix is the same mix of the turns with its ends
-pub turn_mix : (p q : Point) {a b m : Point} {s t : ℤ} (mix : IsMix a b m s t) → mix.times *ℤ turn p q m ≡ (s *ℤ turn p q a) +ℤ (t *ℤ turn p q b)
+pub turn_mix : (p q : Point) {a b m : Point} {s t : ℤ} (mix : IsMix a b m s t)
+    → mix.times *ℤ turn p q m ≡ (s *ℤ turn p q a) +ℤ (t *ℤ turn p q b)
 unfolding turn
 turn_mix p q {a} {b} {m} {s} {t} mix =
     let pp = point_at 3 in
@@ -210,9 +227,11 @@ turn_weights a b p q =
     let pb = point_at 3 in
     let pp = point_at 6 in
     let pq = point_at 9 in
-    identity (turn_poly pp pq pb ⊗ pa.w ⊖ turn_poly pp pq pa ⊗ pb.w) (turn_poly pa pb pp ⊗ pq.w ⊖ turn_poly pa pb pq ⊗ pp.w) (a then b then p then q then []) refl
+    identity (turn_poly pp pq pb ⊗ pa.w ⊖ turn_poly pp pq pa ⊗ pb.w) (turn_poly pa pb pp ⊗ pq.w ⊖ turn_poly pa pb pq ⊗ pp.w)
+    (a then b then p then q then []) refl
 
-two_sides : (s t u v a b p q tp tq : ℤ) → pos 0 <ℤ s → pos 0 <ℤ t → (s *ℤ u) +ℤ (t *ℤ v) ≡ pos 0 → pos 0 <ℤ a → pos 0 <ℤ b → pos 0 <ℤ p → pos 0 <ℤ q → pos 0 <ℤ tp → tq <ℤ pos 0 → (v *ℤ a) -ℤ (u *ℤ b) ≡ (tp *ℤ q) -ℤ (tq *ℤ p) → (u <ℤ pos 0) × (pos 0 <ℤ v)
+two_sides : (s t u v a b p q tp tq : ℤ) → pos 0 <ℤ s → pos 0 <ℤ t → (s *ℤ u) +ℤ (t *ℤ v) ≡ pos 0 → pos 0 <ℤ a → pos 0 <ℤ b → pos 0 <ℤ p
+    → pos 0 <ℤ q → pos 0 <ℤ tp → tq <ℤ pos 0 → (v *ℤ a) -ℤ (u *ℤ b) ≡ (tp *ℤ q) -ℤ (tq *ℤ p) → (u <ℤ pos 0) × (pos 0 <ℤ v)
 two_sides s t u v a b p q tp tq hs ht e ha hb hp hq hl hr k = (below, above)
   where
     below : u <ℤ pos 0
@@ -220,15 +239,26 @@ two_sides s t u v a b p q tp tq hs ht e ha hb hp hq hl hr k = (below, above)
         (nonpos_factor t v ht (omega (arith, linear, e, nonneg-*-nonneg (<ℤ_weaken hs) h)))))
       where
         clash : pos 0 ≤ℤ u → v ≤ℤ pos 0 → ⊥
-        clash h l = omega (arith, linear, k, nonpos-*-nonneg l (<ℤ_weaken ha), nonneg-*-nonneg h (<ℤ_weaken hb), pos-*-pos hl hq, neg-*-pos hr hp)
+        clash h l = omega (
+          arith,
+          linear,
+          k,
+          nonpos-*-nonneg l (<ℤ_weaken ha),
+          nonneg-*-nonneg h
+              (<ℤ_weaken hb),
+          pos-*-pos hl hq,
+          neg-*-pos hr hp,
+        )
 
     above : pos 0 <ℤ v
     above = pos_factor t v ht (omega (arith, linear, e, pos-*-neg hs below))
 
-pub cut_from_meet : (a b p q m : Point) → pos 0 <ℤ turn a b p → turn a b q <ℤ pos 0 → IsStrictlyBetween a b m → IsOnSegment p q m → IsCut true a b p q
+pub cut_from_meet : (a b p q m : Point) → pos 0 <ℤ turn a b p → turn a b q <ℤ pos 0 → IsStrictlyBetween a b m → IsOnSegment p q m
+    → IsCut true a b p q
 cut_from_meet a b p q m left right between on = record { first = left; second = right; third = sides.0; fourth = sides.1 }
   where
     sides : (turn p q a <ℤ pos 0) × (pos 0 <ℤ turn p q b)
-    sides = two_sides between.s between.t (turn p q a) (turn p q b) a.w b.w p.w q.w (turn a b p) (turn a b q) between.some_first between.some_second
+    sides = two_sides between.s between.t (turn p q a) (turn p q b) a.w b.w p.w q.w (turn a b p)
+        (turn a b q) between.some_first between.some_second
         (sym (turn_mix p q between.mix) ∙ ap (λ z. between.mix.times *ℤ z) (mix_turn on.mix) ∙ *ℤ-zero between.mix.times)
         a.heavy b.heavy p.heavy q.heavy left right (turn_weights a b p q)

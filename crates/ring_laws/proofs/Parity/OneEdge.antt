@@ -1,4 +1,5 @@
--- Crossing parity of one edge: where the segment from p to q meets the edge from a to b nowhere, the ray to the right of p crosses the edge exactly as often as that of q, but for the ends that are beside the segment.
+-- Crossing parity of one edge: where the segment from p to q meets the edge from a to b nowhere, the ray to the right of p
+-- crosses the edge exactly as often as that of q, but for the ends that are beside the segment.
 use Rattle.std.proofs.Common.{◌≡◌, ℤ, pos, ◌+ℤ◌, ◌-ℤ◌, ◌*ℤ◌, neg_ℤ, ◌<ℤ◌, ◌≤ℤ◌, Bool, true, false, [], ap, refl, ◌∙◌, ◌∷◌, arith}
 use Rattle.std.specs.Bool.{MatchBool}
 use Rattle.std.specs.Prelude.{int_le}
@@ -80,7 +81,8 @@ heights_of_p a b p q =
     let pb = point_at 3 in
     let pp = point_at 6 in
     let pq = point_at 9 in
-    identity (turn_poly pa pb pp ⊗ rise_p pp pq) (turn_poly pp pq pb ⊗ rise_p pp pa ⊖ turn_poly pp pq pa ⊗ rise_p pp pb) (a then b then p then q then []) refl
+    identity (turn_poly pa pb pp ⊗ rise_p pp pq) (turn_poly pp pq pb ⊗ rise_p pp pa ⊖ turn_poly pp pq pa ⊗ rise_p pp pb)
+    (a then b then p then q then []) refl
 
 heights_of_q : (a b p q : Point) → turn a b q *ℤ rise p q ≡ (turn p q b *ℤ rise q a) -ℤ (turn p q a *ℤ rise q b)
 unfolding turn rise
@@ -89,7 +91,8 @@ heights_of_q a b p q =
     let pb = point_at 3 in
     let pp = point_at 6 in
     let pq = point_at 9 in
-    identity (turn_poly pa pb pq ⊗ rise_p pp pq) (turn_poly pp pq pb ⊗ rise_p pq pa ⊖ turn_poly pp pq pa ⊗ rise_p pq pb) (a then b then p then q then []) refl
+    identity (turn_poly pa pb pq ⊗ rise_p pp pq) (turn_poly pp pq pb ⊗ rise_p pq pa ⊖ turn_poly pp pq pa ⊗ rise_p pq pb)
+    (a then b then p then q then []) refl
 
 heights_of_a : (a b p q : Point) → turn p q a *ℤ rise a b ≡ (turn a b p *ℤ rise q a) -ℤ (turn a b q *ℤ rise p a)
 unfolding turn rise
@@ -98,7 +101,8 @@ heights_of_a a b p q =
     let pb = point_at 3 in
     let pp = point_at 6 in
     let pq = point_at 9 in
-    identity (turn_poly pp pq pa ⊗ rise_p pa pb) (turn_poly pa pb pp ⊗ rise_p pq pa ⊖ turn_poly pa pb pq ⊗ rise_p pp pa) (a then b then p then q then []) refl
+    identity (turn_poly pp pq pa ⊗ rise_p pa pb) (turn_poly pa pb pp ⊗ rise_p pq pa ⊖ turn_poly pa pb pq ⊗ rise_p pp pa)
+    (a then b then p then q then []) refl
 
 heights_of_b : (a b p q : Point) → turn p q b *ℤ rise a b ≡ (turn a b p *ℤ rise q b) -ℤ (turn a b q *ℤ rise p b)
 unfolding turn rise
@@ -107,9 +111,11 @@ heights_of_b a b p q =
     let pb = point_at 3 in
     let pp = point_at 6 in
     let pq = point_at 9 in
-    identity (turn_poly pp pq pb ⊗ rise_p pa pb) (turn_poly pa pb pp ⊗ rise_p pq pb ⊖ turn_poly pa pb pq ⊗ rise_p pp pb) (a then b then p then q then []) refl
+    identity (turn_poly pp pq pb ⊗ rise_p pa pb) (turn_poly pa pb pp ⊗ rise_p pq pb ⊖ turn_poly pa pb pq ⊗ rise_p pp pb)
+    (a then b then p then q then []) refl
 
-pub heights : (a b p q : Point) → pos 0 ≤ℤ rise p q → Heights (rise p a) (rise p b) (rise q a) (rise q b) (rise p q) (rise a b) (turn p q a) (turn p q b) (turn a b p) (turn a b q)
+pub heights : (a b p q : Point) → pos 0 ≤ℤ rise p q → Heights (rise p a) (rise p b) (rise q a) (rise q b) (rise p q) (rise a b)
+    (turn p q a) (turn p q b) (turn a b p) (turn a b q)
 heights a b p q level = record {
   level = level;
   of_p = heights_of_p a b p q;
@@ -147,7 +153,8 @@ sums a b p q =
       mass = identity (sb ⊗ pa.w ⊕ minus sa ⊗ pb.w) (minus tq ⊗ pp.w ⊕ tp ⊗ pq.w) vs refl;
     }
 
-heavy_mix : (sa sb tp tq a b p q : ℤ) → AreWeights sa sb tp tq → pos 0 <ℤ a → pos 0 <ℤ b → pos 0 <ℤ p → pos 0 <ℤ q → (sb *ℤ a) +ℤ (neg_ℤ sa *ℤ b) ≡ (neg_ℤ tq *ℤ p) +ℤ (tp *ℤ q) → pos 0 <ℤ ((sb *ℤ a) +ℤ (neg_ℤ sa *ℤ b))
+heavy_mix : (sa sb tp tq a b p q : ℤ) → AreWeights sa sb tp tq → pos 0 <ℤ a → pos 0 <ℤ b → pos 0 <ℤ p → pos 0 <ℤ q
+    → (sb *ℤ a) +ℤ (neg_ℤ sa *ℤ b) ≡ (neg_ℤ tq *ℤ p) +ℤ (tp *ℤ q) → pos 0 <ℤ ((sb *ℤ a) +ℤ (neg_ℤ sa *ℤ b))
 heavy_mix sa sb tp tq a b p q w ha hb hp hq e =
     let x = var 0 in
     let y = var 1 in
@@ -197,7 +204,8 @@ common a b p q apart {sa} {sb} {tp} {tq} e w =
       };
     })
 
-turned_sum : (s t u v a b c d : ℤ) → (s *ℤ a) +ℤ (neg_ℤ t *ℤ b) ≡ (neg_ℤ u *ℤ c) +ℤ (v *ℤ d) → (t *ℤ b) +ℤ (neg_ℤ s *ℤ a) ≡ (neg_ℤ v *ℤ d) +ℤ (u *ℤ c)
+turned_sum : (s t u v a b c d : ℤ) → (s *ℤ a) +ℤ (neg_ℤ t *ℤ b) ≡ (neg_ℤ u *ℤ c) +ℤ (v *ℤ d)
+    → (t *ℤ b) +ℤ (neg_ℤ s *ℤ a) ≡ (neg_ℤ v *ℤ d) +ℤ (u *ℤ c)
 turned_sum s t u v a b c d e = omega (arith, linear, e, neg-*ℤ s a, neg-*ℤ t b, neg-*ℤ u c, neg-*ℤ v d)
 
 -- the same for both segments turned round
@@ -218,11 +226,13 @@ no_weights a b p q apart = record {
 }
 
 -- ---- the ray of p crosses the edge as often as that of q, but for the ends beside the segment
-pub parity : (a b p q : Point) → pos 0 ≤ℤ rise p q → AreApart a b p q → crosses_between p a b ≡ differ (crosses_between q a b) (differ (is_beside p q a) (is_beside p q b))
+pub parity : (a b p q : Point) → pos 0 ≤ℤ rise p q → AreApart a b p q
+    → crosses_between p a b ≡ differ (crosses_between q a b) (differ (is_beside p q a) (is_beside p q b))
 parity a b p q level apart =
     by_bands (is_low p a) (is_low q a) (is_low p b) (is_low q b) (tells_low p a) (tells_low q a) (tells_low p b) (tells_low q b)
     (low_stays p q a level) (low_stays p q b level) (heights a b p q level) (no_weights a b p q apart)
 
 -- an edge turned round crosses the same rays
 pub crosses_swap : (p a b : Point) → crosses_between p b a ≡ crosses_between p a b
-crosses_swap p a b = ap (crosses_from (is_low p b) (is_low p a)) (turn_swap a b p) ∙ crosses_from_swap (is_low p b) (is_low p a) (turn a b p)
+crosses_swap p a b = ap (crosses_from (is_low p b) (is_low p a)) (turn_swap a b p)
+    ∙ crosses_from_swap (is_low p b) (is_low p a) (turn a b p)

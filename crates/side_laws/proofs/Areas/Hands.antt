@@ -61,7 +61,8 @@ misses_near v p edges r off near = record {
   off = λ m on. none_held v m edges off (r.free r.n (omega arith) m (near_mix near (near_self v r.n) on));
 }
 
-pub settled_off : (ring : List Pt) → IsClosed ring → (v : Point) → is_on_edges v (edges_of ring) ≡ false → (d : Direction) → HoldsAlong (λ q. is_inside q ring ≡ is_inside v ring) v d
+pub settled_off : (ring : List Pt) → IsClosed ring → (v : Point) → is_on_edges v (edges_of ring) ≡ false → (d : Direction)
+    → HoldsAlong (λ q. is_inside q ring ≡ is_inside v ring) v d
 settled_off ring closed v off d =
     let r = room v (edges_of ring) in
     record {
@@ -85,7 +86,8 @@ record HasPoint (P : Point → Type 0) : Type 0 where
   is : P q
 
 along_some : {P : Point → Type 0} {v : Point} {d : Direction} → HoldsAlong P v d → HasPoint P
-along_some {P} {v} {d} h = record { q = away_point v d h.from; is = h.holds (suc h.from) (omega arith) (away_point v d h.from) (away_point_is v d h.from) }
+along_some {P} {v} {d} h = record
+    { q = away_point v d h.from; is = h.holds (suc h.from) (omega arith) (away_point v d h.from) (away_point_is v d h.from) }
 
 -- ---- the places of an area's edges
 record HasPlace (edges : List Seg) (e : Seg) : Type 0 where
@@ -101,7 +103,8 @@ place_right : (xs ys : List Seg) (i : ℕ) (e : Seg) → IsAtPlace ys i e → Ha
 place_right [] ys i e is = record { place = i; is = is }
 place_right (x ∷ xs) ys i e is = let h = place_right xs ys i e is in record { place = suc h.place; is = h.is }
 
-edge_of_rings : (rings : List (List Pt)) (k : ℕ) (ring : List Pt) (i : ℕ) (e : Seg) → IsAtPlace rings k ring → IsAtPlace (edges_of ring) i e → HasPlace (edges_of_rings rings) e
+edge_of_rings : (rings : List (List Pt)) (k : ℕ) (ring : List Pt) (i : ℕ) (e : Seg) → IsAtPlace rings k ring
+    → IsAtPlace (edges_of ring) i e → HasPlace (edges_of_rings rings) e
 edge_of_rings [] k ring i e is is_e = cc
 edge_of_rings (r ∷ rings) zero ring i e is is_e = record {
   place = i;
@@ -133,7 +136,9 @@ area_clean f shaped valid place area is = record {
 }
 
 -- two rings have no edge in common
-not_in_both : (area : Area) → ¬ RingsShareSegment area → (k l : ℕ) → k < l → (one other : List Pt) → IsAtPlace (rings_of area) k one → IsAtPlace (rings_of area) l other → (i j : ℕ) (e : Seg) → IsAtPlace (edges_of one) i e → IsAtPlace (edges_of other) j e → ¬ IsSamePoint (point_of e.a) (point_of e.b) → ⊥
+not_in_both : (area : Area) → ¬ RingsShareSegment area → (k l : ℕ) → k < l → (one other : List Pt) → IsAtPlace (rings_of area) k one
+    → IsAtPlace (rings_of area) l other → (i j : ℕ) (e : Seg) → IsAtPlace (edges_of one) i e → IsAtPlace (edges_of other) j e
+    → ¬ IsSamePoint (point_of e.a) (point_of e.b) → ⊥
 not_in_both area unshared k l before one other is_one is_other i j e is_i is_j apart =
     unshared (record {
       i = k;
@@ -161,7 +166,8 @@ record IsRingEdge (area : Area) (k : ℕ) (ring : List Pt) (i : ℕ) (e : Seg) (
   one : IsOnEdgeAlone area e v
 
 -- such a point is on no edge of another ring
-off_ring : {area : Area} {k : ℕ} {ring : List Pt} {i : ℕ} {e : Seg} {v : Point} → ¬ RingsShareSegment area → IsRingEdge area k ring i e v → (l : ℕ) (other : List Pt) → IsAtPlace (rings_of area) l other → ¬ (k ≡ l) → is_on_edges v (edges_of other) ≡ false
+off_ring : {area : Area} {k : ℕ} {ring : List Pt} {i : ℕ} {e : Seg} {v : Point} → ¬ RingsShareSegment area → IsRingEdge area k ring i e v
+    → (l : ℕ) (other : List Pt) → IsAtPlace (rings_of area) l other → ¬ (k ≡ l) → is_on_edges v (edges_of other) ≡ false
 off_ring {area} {k} {ring} {i} {e} {v} unshared at l other is differ =
     off_by_places v (edges_of other) (λ j f is_f. off_edge f v (λ on.
     let h = edge_of_rings (rings_of area) l other j f is is_f in
@@ -179,7 +185,8 @@ off_ring {area} {k} {ring} {i} {e} {v} unshared at l other is differ =
         by_order (inr (inr after)) = not_in_both area unshared l k after other ring is at.ring_is j i e is_j at.edge_is apart
 
 -- ---- to either side of the edge there is no edge of the area near such a point
-clear_beside : (s : Bool) {area : Area} {e : Seg} {v : Point} → IsOnEdgeAlone area e v → (d : Direction) → HasSign s (slope e d) → HoldsAlong (λ q. is_on_edges q (edges_of_rings (rings_of area)) ≡ false) v d
+clear_beside : (s : Bool) {area : Area} {e : Seg} {v : Point} → IsOnEdgeAlone area e v → (d : Direction) → HasSign s (slope e d)
+    → HoldsAlong (λ q. is_on_edges q (edges_of_rings (rings_of area)) ≡ false) v d
 clear_beside s {area} {e} {v} one d to = record {
   from = far_for d r.n;
   holds = λ n far q away. off_by_places q edges (λ j f is. by_v n far q away j f is (is_on_edge v f) refl);
@@ -196,7 +203,8 @@ clear_beside s {area} {e} {v} one d to = record {
         signed_nonzero s (edge_turn e q)
         (side_of s e (edge_turn_on e (on_from_strictly_between one.between)) to (omega (arith, far)) away) (edge_turn_on e on)
 
-    by_v : (n : ℕ) → far_for d r.n < n → (q : Point) → IsAway v d n q → (j : ℕ) (f : Seg) → IsAtPlace edges j f → (b : Bool) → is_on_edge v f ≡ b → is_on_edge q f ≡ false
+    by_v : (n : ℕ) → far_for d r.n < n → (q : Point) → IsAway v d n q → (j : ℕ) (f : Seg) → IsAtPlace edges j f → (b : Bool)
+        → is_on_edge v f ≡ b → is_on_edge q f ≡ false
     by_v n far q away j f is true on =
         subst (λ g. is_on_edge q g ≡ false) (sym (one.alone j f is (on_true on))) (off_edge e q (off_own n far q away))
     by_v n far q away j f is false off = held_at v q edges (r.free r.n (omega arith) q (away_near r.n far away)) j f is off
@@ -211,7 +219,8 @@ side_from hand.Left e d to = record { s = true; to = to }
 side_from hand.Right e d to = record { s = false; to = to }
 side_from hand.Line e d to = absurd to
 
-clear_to : (side : Hand) {area : Area} {e : Seg} {v : Point} → IsOnEdgeAlone area e v → (d : Direction) → PointsTo side e d → HoldsAlong (λ q. is_on_edges q (edges_of_rings (rings_of area)) ≡ false) v d
+clear_to : (side : Hand) {area : Area} {e : Seg} {v : Point} → IsOnEdgeAlone area e v → (d : Direction) → PointsTo side e d
+    → HoldsAlong (λ q. is_on_edges q (edges_of_rings (rings_of area)) ≡ false) v d
 clear_to side {area} {e} {v} one d to = let h = side_from side e d to in clear_beside h.s one d h.to
 
 -- some direction to a hand
@@ -235,29 +244,37 @@ other_twice hand.Right = refl
 other_twice hand.Line = refl
 
 -- ---- lists of holes
-any_none : {v : Point} {d : Direction} (holes : List (List Pt)) → ((k : ℕ) (hole : List Pt) → IsAtPlace holes k hole → HoldsAlong (λ q. is_inside q hole ≡ false) v d) → HoldsAlong (λ q. list_any (is_inside q) holes ≡ false) v d
+any_none : {v : Point} {d : Direction} (holes : List (List Pt))
+    → ((k : ℕ) (hole : List Pt) → IsAtPlace holes k hole → HoldsAlong (λ q. is_inside q hole ≡ false) v d)
+    → HoldsAlong (λ q. list_any (is_inside q) holes ≡ false) v d
 any_none [] h = record { from = 0; holds = λ n far q away. refl }
 any_none (hole ∷ holes) h =
     along_like (λ q both. or_from (is_inside q hole) (list_any (is_inside q) holes) both.0 both.1)
     (along_both (h 0 hole refl) (any_none holes (λ k other is. h (suc k) other is)))
 
-any_at : (q : Point) (holes : List (List Pt)) (k : ℕ) (hole : List Pt) → IsAtPlace holes k hole → is_inside q hole ≡ true → list_any (is_inside q) holes ≡ true
+any_at : (q : Point) (holes : List (List Pt)) (k : ℕ) (hole : List Pt) → IsAtPlace holes k hole → is_inside q hole ≡ true
+    → list_any (is_inside q) holes ≡ true
 any_at q [] k hole is h = cc
 any_at q (first ∷ holes) zero hole is h = or_left (is_inside q first) (list_any (is_inside q) holes) (ap (is_inside q) (some_same is) ∙ h)
 any_at q (first ∷ holes) (suc k) hole is h = or_right (is_inside q first) (list_any (is_inside q) holes) (any_at q holes k hole is h)
 
 -- the location that three tests along a direction give
-germ_by : (area : Area) {v : Point} {d : Direction} (shell hole : Bool) → HoldsAlong (λ q. is_on_edges q (edges_of_rings (rings_of area)) ≡ false) v d → HoldsAlong (λ q. is_inside q area.shell ≡ shell) v d → HoldsAlong (λ q. list_any (is_inside q) area.holes ≡ hole) v d → IsGerm area v d (location_by false shell hole)
+germ_by : (area : Area) {v : Point} {d : Direction} (shell hole : Bool)
+    → HoldsAlong (λ q. is_on_edges q (edges_of_rings (rings_of area)) ≡ false) v d → HoldsAlong (λ q. is_inside q area.shell ≡ shell) v d
+    → HoldsAlong (λ q. list_any (is_inside q) area.holes ≡ hole) v d → IsGerm area v d (location_by false shell hole)
 germ_by area shell hole off in_shell in_holes =
     along_like (λ q all. λ i. location_by (all.0 i) (all.1.0 i) (all.1.1 i)) (along_both off (along_both in_shell in_holes))
 
-outside_germ : (area : Area) {v : Point} {d : Direction} → HoldsAlong (λ q. is_on_edges q (edges_of_rings (rings_of area)) ≡ false) v d → HoldsAlong (λ q. is_inside q area.shell ≡ false) v d → IsGerm area v d Exterior
+outside_germ : (area : Area) {v : Point} {d : Direction} → HoldsAlong (λ q. is_on_edges q (edges_of_rings (rings_of area)) ≡ false) v d
+    → HoldsAlong (λ q. is_inside q area.shell ≡ false) v d → IsGerm area v d Exterior
 outside_germ area off in_shell =
     along_like (λ q both. (λ i. location_by (both.0 i) (both.1 i) (list_any (is_inside q) area.holes))) (along_both off in_shell)
 
-in_hole_germ : (area : Area) {v : Point} {d : Direction} → HoldsAlong (λ q. is_on_edges q (edges_of_rings (rings_of area)) ≡ false) v d → HoldsAlong (λ q. list_any (is_inside q) area.holes ≡ true) v d → IsGerm area v d Exterior
+in_hole_germ : (area : Area) {v : Point} {d : Direction} → HoldsAlong (λ q. is_on_edges q (edges_of_rings (rings_of area)) ≡ false) v d
+    → HoldsAlong (λ q. list_any (is_inside q) area.holes ≡ true) v d → IsGerm area v d Exterior
 in_hole_germ area off in_holes =
-    along_like (λ q both. (λ i. location_by (both.0 i) (is_inside q area.shell) (both.1 i)) ∙ hidden (is_inside q area.shell)) (along_both off in_holes)
+    along_like (λ q both. (λ i. location_by (both.0 i) (is_inside q area.shell) (both.1 i)) ∙ hidden (is_inside q area.shell))
+    (along_both off in_holes)
   where
     hidden : (shell : Bool) → location_by false shell true ≡ Exterior
     hidden true = refl
@@ -265,7 +282,9 @@ in_hole_germ area off in_holes =
 
 -- ---- an edge of the shell
 -- where its inside lies on a hand, no hole holds the point: else points on the other hand would be in the hole and not in the shell
-shell_holes : {area : Area} {i : ℕ} {e : Seg} {v : Point} {side : Hand} → AreRingsClean area → IsInsideHand area.shell side → IsRingEdge area 0 area.shell i e v → (k : ℕ) (hole : List Pt) → IsAtPlace area.holes k hole → (d : Direction) → HoldsAlong (λ q. is_inside q hole ≡ false) v d
+shell_holes : {area : Area} {i : ℕ} {e : Seg} {v : Point} {side : Hand} → AreRingsClean area → IsInsideHand area.shell side
+    → IsRingEdge area 0 area.shell i e v → (k : ℕ) (hole : List Pt) → IsAtPlace area.holes k hole → (d : Direction)
+    → HoldsAlong (λ q. is_inside q hole ≡ false) v d
 shell_holes {area} {i} {e} {v} {side} clean inside at k hole is d =
     along_like (λ q same. same ∙ outside) (settled_off hole closed v off d)
   where
@@ -280,27 +299,34 @@ shell_holes {area} {i} {e} {v} {side} clean inside at k hole is d =
 
     outside : is_inside v hole ≡ false
     outside = false_from_ne_true (is_inside v hole) (λ held.
-        let some = along_some (along_both (settled_off hole closed v off way.d) (inside.outside i e at.edge_is v at.one.between way.d way.to)) in
+        let some = along_some
+        (along_both (settled_off hole closed v off way.d) (inside.outside i e at.edge_is v at.one.between way.d way.to)) in
         clean.within (record { i = k; hole = hole; hole_is = is; p = some.q; in_hole = some.is.0 ∙ held; off_shell = some.is.1 }))
 
-pub shell_hand : (area : Area) → AreRingsClean area → (side : Hand) → IsInsideHand area.shell side → (i : ℕ) (e : Seg) → IsAtPlace (edges_of area.shell) i e → IsAreaHand area e side
+pub shell_hand : (area : Area) → AreRingsClean area → (side : Hand) → IsInsideHand area.shell side → (i : ℕ) (e : Seg)
+    → IsAtPlace (edges_of area.shell) i e → IsAreaHand area e side
 shell_hand area clean side inside i e is = record {
   sided = inside.sided;
   inside = λ v one d to.
       germ_by area true false (clear_to side one d to) (inside.inside i e is v one.between d to)
-      (any_none area.holes (λ k hole is_hole. shell_holes clean inside (record { ring_is = refl; edge_is = is; one = one }) k hole is_hole d));
+      (any_none area.holes (λ k hole is_hole. shell_holes clean inside (record { ring_is = refl; edge_is = is; one = one }) k hole is_hole
+      d));
   outside = λ v one d to. outside_germ area (clear_to (other_hand side) one d to) (inside.outside i e is v one.between d to);
 }
 
 -- ---- an edge of a hole
 -- a point of the hole's inside, near the edge
-hole_some : {area : Area} {k : ℕ} {hole : List Pt} {i : ℕ} {e : Seg} {v : Point} {side : Hand} → IsInsideHand hole side → IsRingEdge area (suc k) hole i e v → (other : List Pt) → IsClosed other → is_on_edges v (edges_of other) ≡ false → HasPoint (λ q. (is_inside q other ≡ is_inside v other) × (is_inside q hole ≡ true))
+hole_some : {area : Area} {k : ℕ} {hole : List Pt} {i : ℕ} {e : Seg} {v : Point} {side : Hand} → IsInsideHand hole side
+    → IsRingEdge area (suc k) hole i e v → (other : List Pt) → IsClosed other → is_on_edges v (edges_of other) ≡ false
+    → HasPoint (λ q. (is_inside q other ≡ is_inside v other) × (is_inside q hole ≡ true))
 hole_some {area} {k} {hole} {i} {e} {v} {side} inside at other closed off =
     let way = some_way side inside.sided e at.one.between.apart in
     along_some (along_both (settled_off other closed v off way.d) (inside.inside i e at.edge_is v at.one.between way.d way.to))
 
 -- the shell holds the point, since the hole's inside is within the shell
-in_shell : {area : Area} {k : ℕ} {hole : List Pt} {i : ℕ} {e : Seg} {v : Point} {side : Hand} → AreRingsClean area → IsAtPlace area.holes k hole → IsInsideHand hole side → IsRingEdge area (suc k) hole i e v → (d : Direction) → HoldsAlong (λ q. is_inside q area.shell ≡ true) v d
+in_shell : {area : Area} {k : ℕ} {hole : List Pt} {i : ℕ} {e : Seg} {v : Point} {side : Hand} → AreRingsClean area
+    → IsAtPlace area.holes k hole → IsInsideHand hole side → IsRingEdge area (suc k) hole i e v → (d : Direction)
+    → HoldsAlong (λ q. is_inside q area.shell ≡ true) v d
 in_shell {area} {k} {hole} {i} {e} {v} {side} clean is inside at d =
     along_like (λ q same. same ∙ by_test (is_inside v area.shell) refl) (settled_off area.shell clean.shaped.shell.closed v off d)
   where
@@ -314,7 +340,9 @@ in_shell {area} {k} {hole} {i} {e} {v} {side} clean is inside at d =
         absurd (clean.within (record { i = k; hole = hole; hole_is = is; p = some.q; in_hole = some.is.1; off_shell = some.is.0 ∙ h }))
 
 -- no other hole holds the point, since the insides of holes don't overlap
-in_no_other : {area : Area} {k : ℕ} {hole : List Pt} {i : ℕ} {e : Seg} {v : Point} {side : Hand} → AreRingsClean area → IsAtPlace area.holes k hole → IsInsideHand hole side → IsRingEdge area (suc k) hole i e v → (l : ℕ) (other : List Pt) → IsAtPlace area.holes l other → ¬ (k ≡ l) → (d : Direction) → HoldsAlong (λ q. is_inside q other ≡ false) v d
+in_no_other : {area : Area} {k : ℕ} {hole : List Pt} {i : ℕ} {e : Seg} {v : Point} {side : Hand} → AreRingsClean area
+    → IsAtPlace area.holes k hole → IsInsideHand hole side → IsRingEdge area (suc k) hole i e v → (l : ℕ) (other : List Pt)
+    → IsAtPlace area.holes l other → ¬ (k ≡ l) → (d : Direction) → HoldsAlong (λ q. is_inside q other ≡ false) v d
 in_no_other {area} {k} {hole} {i} {e} {v} {side} clean is inside at l other is_other differ d =
     along_like (λ q same. same ∙ outside) (settled_off other closed v off d)
   where
@@ -329,14 +357,40 @@ in_no_other {area} {k} {hole} {i} {e} {v} {side} clean is inside at l other is_o
         let some = hole_some inside at other closed off in
         by_order some (some.is.0 ∙ held) (cases_order k l))
       where
-        by_order : (some : HasPoint (λ q. (is_inside q other ≡ is_inside v other) × (is_inside q hole ≡ true))) → is_inside some.q other ≡ true → (k ≡ l) ⊎ ((k < l) ⊎ (l < k)) → ⊥
+        by_order : (some : HasPoint (λ q. (is_inside q other ≡ is_inside v other) × (is_inside q hole ≡ true)))
+            → is_inside some.q other ≡ true → (k ≡ l) ⊎ ((k < l) ⊎ (l < k)) → ⊥
         by_order some held (inl same) = differ same
         by_order some held (inr (inl before)) =
-            clean.unlapped (record { i = k; j = l; earlier = before; one = hole; other = other; one_is = is; other_is = is_other; p = some.q; in_one = some.is.1; in_other = held })
+            clean.unlapped (record {
+              i = k;
+              j = l;
+              earlier = before;
+              one = hole;
+              other = other;
+              one_is = is;
+              other_is = is_other;
+              p = some.q;
+              in_one =
+                  some.is.1;
+              in_other = held;
+            })
         by_order some held (inr (inr after)) =
-            clean.unlapped (record { i = l; j = k; earlier = after; one = other; other = hole; one_is = is_other; other_is = is; p = some.q; in_one = held; in_other = some.is.1 })
+            clean.unlapped (record {
+              i = l;
+              j = k;
+              earlier = after;
+              one = other;
+              other = hole;
+              one_is = is_other;
+              other_is = is;
+              p = some.q;
+              in_one =
+                  held;
+              in_other = some.is.1;
+            })
 
-pub hole_hand : (area : Area) → AreRingsClean area → (k : ℕ) (hole : List Pt) → IsAtPlace area.holes k hole → (side : Hand) → IsInsideHand hole side → (i : ℕ) (e : Seg) → IsAtPlace (edges_of hole) i e → IsAreaHand area e (other_hand side)
+pub hole_hand : (area : Area) → AreRingsClean area → (k : ℕ) (hole : List Pt) → IsAtPlace area.holes k hole → (side : Hand)
+    → IsInsideHand hole side → (i : ℕ) (e : Seg) → IsAtPlace (edges_of hole) i e → IsAreaHand area e (other_hand side)
 hole_hand area clean k hole is side inside i e is_e = record {
   sided = other_sided side inside.sided;
   inside = λ v one d to.
@@ -351,7 +405,8 @@ hole_hand area clean k hole is side inside i e is_e = record {
     at : (v : Point) → IsOnEdgeAlone area e v → IsRingEdge area (suc k) hole i e v
     at v one = record { ring_is = is; edge_is = is_e; one = one }
 
-    by_place : (v : Point) → IsOnEdgeAlone area e v → (d : Direction) → PointsTo (other_hand side) e d → (l : ℕ) (other : List Pt) → IsAtPlace area.holes l other → (k ≡ l) ⊎ (k ≡ l → ⊥) → HoldsAlong (λ q. is_inside q other ≡ false) v d
+    by_place : (v : Point) → IsOnEdgeAlone area e v → (d : Direction) → PointsTo (other_hand side) e d → (l : ℕ) (other : List Pt)
+        → IsAtPlace area.holes l other → (k ≡ l) ⊎ (k ≡ l → ⊥) → HoldsAlong (λ q. is_inside q other ≡ false) v d
     by_place v one d to l other is_other (inl same) =
         subst (λ ring. HoldsAlong (λ q. is_inside q ring ≡ false) v d) (some_same (sym is ∙ ap (slice_get area.holes) same ∙ is_other))
         (inside.outside i e is_e v one.between d to)

@@ -1,4 +1,5 @@
--- On one hand of an edge of a ring, near a point strictly between its ends, all points are inside the ring or none is, and on the other hand it is the other way round.
+-- On one hand of an edge of a ring, near a point strictly between its ends, all points are inside the ring or none is, and on
+-- the other hand it is the other way round.
 use Rattle.std.proofs.Common.{◌≡◌, ℕ, zero, suc, ◌+◌, ◌<◌, ℤ, pos, ◌+ℤ◌, ◌-ℤ◌, ◌*ℤ◌, neg_ℤ, ◌<ℤ◌, Bool, true, false, not, List, [], ◌∷◌, ◌++◌, take, drop, ap, refl, sym, ◌∙◌, subst, arith}
 use Rattle.std.proofs.Math.Bool.{not-not}
 use Rattle.whole_algebra.proofs.Laws.{linear, *ℤ_one}
@@ -60,22 +61,26 @@ left_way_slope e apart =
 pub right_way_slope : (e : Seg) (apart : ¬ IsSamePoint (point_of e.a) (point_of e.b)) → slope e (right_way e apart) <ℤ pos 0
 unfolding right_way
 right_way_slope e apart =
-    let p : pos 0 <ℤ (((e.b.x -ℤ e.a.x) *ℤ (e.b.x -ℤ e.a.x)) +ℤ ((e.b.y -ℤ e.a.y) *ℤ (e.b.y -ℤ e.a.y))) = squares (e.b.x -ℤ e.a.x) (e.b.y -ℤ e.a.y) (λ h. apart (still e h.0 h.1)) in
+    let p : pos 0 <ℤ (((e.b.x -ℤ e.a.x) *ℤ (e.b.x -ℤ e.a.x)) +ℤ ((e.b.y -ℤ e.a.y) *ℤ (e.b.y -ℤ e.a.y))) =
+    squares (e.b.x -ℤ e.a.x) (e.b.y -ℤ e.a.y) (λ h. apart (still e h.0 h.1)) in
     omega (arith, linear, right_slope (e.b.x -ℤ e.a.x) (e.b.y -ℤ e.a.y), p)
 
 -- ---- the segment from a point on the left to its mirror image on the right
 middle : (n x w y : ℤ) → (pos 2 *ℤ n) *ℤ x ≡ (pos 1 *ℤ ((x *ℤ n) +ℤ (neg_ℤ y *ℤ w))) +ℤ (pos 1 *ℤ ((x *ℤ n) +ℤ (y *ℤ w)))
 middle n x w y =
-    identity ((num (pos 2) ⊗ var 0) ⊗ var 1) (num (pos 1) ⊗ (var 1 ⊗ var 0 ⊕ minus (var 3) ⊗ var 2) ⊕ num (pos 1) ⊗ (var 1 ⊗ var 0 ⊕ var 3 ⊗ var 2)) (n ∷ x ∷ w ∷ y ∷ []) refl
+    identity ((num (pos 2) ⊗ var 0) ⊗ var 1)
+    (num (pos 1) ⊗ (var 1 ⊗ var 0 ⊕ minus (var 3) ⊗ var 2) ⊕ num (pos 1) ⊗ (var 1 ⊗ var 0 ⊕ var 3 ⊗ var 2)) (n ∷ x ∷ w ∷ y ∷ []) refl
 
 middle' : (n x w y : ℤ) → (pos 2 *ℤ n) *ℤ x ≡ (pos 1 *ℤ ((x *ℤ n) +ℤ (y *ℤ w))) +ℤ (pos 1 *ℤ ((x *ℤ n) +ℤ (neg_ℤ y *ℤ w)))
 middle' n x w y =
-    identity ((num (pos 2) ⊗ var 0) ⊗ var 1) (num (pos 1) ⊗ (var 1 ⊗ var 0 ⊕ var 3 ⊗ var 2) ⊕ num (pos 1) ⊗ (var 1 ⊗ var 0 ⊕ minus (var 3) ⊗ var 2)) (n ∷ x ∷ w ∷ y ∷ []) refl
+    identity ((num (pos 2) ⊗ var 0) ⊗ var 1)
+    (num (pos 1) ⊗ (var 1 ⊗ var 0 ⊕ var 3 ⊗ var 2) ⊕ num (pos 1) ⊗ (var 1 ⊗ var 0 ⊕ minus (var 3) ⊗ var 2)) (n ∷ x ∷ w ∷ y ∷ []) refl
 
 middle_mass : (n w : ℤ) → (pos 2 *ℤ n) *ℤ w ≡ (pos 1 *ℤ (w *ℤ n)) +ℤ (pos 1 *ℤ (w *ℤ n))
 middle_mass n w = identity ((num (pos 2) ⊗ var 0) ⊗ var 1) (num (pos 1) ⊗ (var 1 ⊗ var 0) ⊕ num (pos 1) ⊗ (var 1 ⊗ var 0)) (n ∷ w ∷ []) refl
 
-v_between : (e : Seg) (apart : ¬ IsSamePoint (point_of e.a) (point_of e.b)) (v : Point) (n : ℕ) → IsOnSegment (away_point v (left_way e apart) n) (away_point v (right_way e apart) n) v
+v_between : (e : Seg) (apart : ¬ IsSamePoint (point_of e.a) (point_of e.b)) (v : Point) (n : ℕ)
+    → IsOnSegment (away_point v (left_way e apart) n) (away_point v (right_way e apart) n) v
 unfolding left_way right_way away_point
 v_between e apart v n = record {
   s = pos 1;
@@ -92,22 +97,28 @@ v_between e apart v n = record {
 }
 
 -- near a point of one edge alone no other edge is met
-pub held_at : (v p : Point) (edges : List Seg) → HoldBoth v p edges → (j : ℕ) (f : Seg) → IsAtPlace edges j f → is_on_edge v f ≡ false → is_on_edge p f ≡ false
+pub held_at : (v p : Point) (edges : List Seg) → HoldBoth v p edges → (j : ℕ) (f : Seg) → IsAtPlace edges j f → is_on_edge v f ≡ false
+    → is_on_edge p f ≡ false
 held_at v p [] both j f is off = cc
 held_at v p (g ∷ edges) both zero f is off = subst (λ h. is_on_edge v h ≡ false → is_on_edge p h ≡ false) (some_same is) both.0 off
 held_at v p (g ∷ edges) both (suc j) f is off = held_at v p edges both.1 j f is off
 
-pub others_missed : {edges : List Seg} {i : ℕ} {e : Seg} {v : Point} → IsAlone edges i e v → (r : HasRoom v edges) → (p q : Point) → IsNear v r.n p → IsNear v r.n q → Misses p q (take i edges ++ drop (suc i) edges)
+pub others_missed : {edges : List Seg} {i : ℕ} {e : Seg} {v : Point} → IsAlone edges i e v → (r : HasRoom v edges) → (p q : Point)
+    → IsNear v r.n p → IsNear v r.n q → Misses p q (take i edges ++ drop (suc i) edges)
 others_missed {edges} {i} {e} {v} one r p q near near' = record {
   off = λ m on.
       off_others_by_places m edges i (λ j f apart is.
       held_at v m edges (r.free r.n (omega arith) m (near_mix near near' on)) j f is (off_edge f v (one.alone j f apart is)));
 }
 
-pub side_of : (s : Bool) (e : Seg) {v : Point} {d : Direction} {n : ℕ} {p : Point} → edge_turn e v ≡ pos 0 → HasSign s (slope e d) → 0 < n → IsAway v d n p → HasSign s (edge_turn e p)
+pub side_of : (s : Bool) (e : Seg) {v : Point} {d : Direction} {n : ℕ} {p : Point} → edge_turn e v ≡ pos 0 → HasSign s (slope e d) → 0 < n
+    → IsAway v d n p → HasSign s (edge_turn e p)
 side_of s e {v} {d} {n} {p} on h some away = cone_side s e on h h (between_in_cone some some away away (start_on_segment p p))
 
-flip_at : (ring : List Pt) → IsClosed ring → {i : ℕ} {e : Seg} {v : Point} → IsAlone (edges_of ring) i e v → IsStrictlyBetween (point_of e.a) (point_of e.b) v → (apart : ¬ IsSamePoint (point_of e.a) (point_of e.b)) → (r : HasRoom v (edges_of ring)) → (n : ℕ) → far_for (left_way e apart) r.n < suc n → far_for (right_way e apart) r.n < suc n → is_inside (away_point v (left_way e apart) n) ring ≡ not (is_inside (away_point v (right_way e apart) n) ring)
+flip_at : (ring : List Pt) → IsClosed ring → {i : ℕ} {e : Seg} {v : Point} → IsAlone (edges_of ring) i e v
+    → IsStrictlyBetween (point_of e.a) (point_of e.b) v → (apart : ¬ IsSamePoint (point_of e.a) (point_of e.b))
+    → (r : HasRoom v (edges_of ring)) → (n : ℕ) → far_for (left_way e apart) r.n < suc n → far_for (right_way e apart) r.n < suc n
+    → is_inside (away_point v (left_way e apart) n) ring ≡ not (is_inside (away_point v (right_way e apart) n) ring)
 unfolding edge_turn
 flip_at ring closed {i} {e} {v} one between apart r n far far' =
     inside_flips ring closed (take i (edges_of ring)) e (drop (suc i) (edges_of ring)) (split_at_place (edges_of ring) i e one.is)
@@ -132,15 +143,18 @@ pub record HasBesideAt (ring : List Pt) (e : Seg) (v : Point) : Type 0 where
   pub left : Bool
   pub beside : IsBesideAt ring e v left
 
-settle : (ring : List Pt) → IsClosed ring → {v : Point} {d d' : Direction} (b : Bool) → AreJoined v d d' (edges_of ring) → (n : ℕ) → ((l : ℕ) → n < suc l → is_inside (away_point v d' l) ring ≡ b) → HoldsAlong (λ q. is_inside q ring ≡ b) v d
+settle : (ring : List Pt) → IsClosed ring → {v : Point} {d d' : Direction} (b : Bool) → AreJoined v d d' (edges_of ring) → (n : ℕ)
+    → ((l : ℕ) → n < suc l → is_inside (away_point v d' l) ring ≡ b) → HoldsAlong (λ q. is_inside q ring ≡ b) v d
 settle ring closed {v} {d} {d'} b j n settled = record {
   from = j.from;
   holds = λ k far p away.
-      inside_stays p (away_point v d' (n + j.from)) ring closed (j.free k (suc (n + j.from)) far (omega arith) p (away_point v d' (n + j.from)) away (away_point_is v d' (n + j.from)))
+      inside_stays p (away_point v d' (n + j.from)) ring closed
+      (j.free k (suc (n + j.from)) far (omega arith) p (away_point v d' (n + j.from)) away (away_point_is v d' (n + j.from)))
       ∙ settled (n + j.from) (omega arith);
 }
 
-pub beside_at : (ring : List Pt) → IsClosed ring → IsSimple (edges_of ring) → (i : ℕ) (e : Seg) → IsAtPlace (edges_of ring) i e → (v : Point) → IsStrictlyBetween (point_of e.a) (point_of e.b) v → HasBesideAt ring e v
+pub beside_at : (ring : List Pt) → IsClosed ring → IsSimple (edges_of ring) → (i : ℕ) (e : Seg) → IsAtPlace (edges_of ring) i e
+    → (v : Point) → IsStrictlyBetween (point_of e.a) (point_of e.b) v → HasBesideAt ring e v
 beside_at ring closed simple i e is v between = record { left = left_in; beside = record { along = by_sides } }
   where
     apart : ¬ IsSamePoint (point_of e.a) (point_of e.b)
@@ -167,7 +181,8 @@ beside_at ring closed simple i e is v between = record { left = left_in; beside 
     left_settled : (l : ℕ) → same.from < suc l → is_inside (away_point v left l) ring ≡ left_in
     left_settled l far =
         inside_stays (away_point v left l) (away_point v left same.from) ring closed
-        (same.free (suc l) (suc same.from) far (omega arith) (away_point v left l) (away_point v left same.from) (away_point_is v left l) (away_point_is v left same.from))
+        (same.free (suc l) (suc same.from) far (omega arith) (away_point v left l) (away_point v left same.from) (away_point_is v left l)
+        (away_point_is v left same.from))
 
     reach : ℕ
     reach = (far_for left r.n + far_for right r.n) + same.from
@@ -175,7 +190,8 @@ beside_at ring closed simple i e is v between = record { left = left_in; beside 
     right_settled : (l : ℕ) → reach < suc l → is_inside (away_point v right l) ring ≡ not left_in
     right_settled l far =
         sym (not-not (is_inside (away_point v right l) ring))
-        ∙ ap not (sym (flip_at ring closed one between apart r l (omega (arith, far)) (omega (arith, far))) ∙ left_settled l (omega (arith, far)))
+        ∙ ap not (sym (flip_at ring closed one between apart r l (omega (arith, far)) (omega (arith, far)))
+        ∙ left_settled l (omega (arith, far)))
 
     by_sides : (s : Bool) (d : Direction) → HasSign s (slope e d) → HoldsAlong (λ q. is_inside q ring ≡ by_hand s left_in) v d
     by_sides true d h = settle ring closed left_in (sided_joined true one d left h (left_way_slope e apart)) same.from left_settled

@@ -69,7 +69,8 @@ parted_by_edge' v w a b h k =
     parted_ends (parted_by_edge v w b a (omega (arith, linear, h, turn_swap a b v)) (omega (arith, linear, k, turn_swap a b w)))
 
 -- the turns can't part so
-opposed {ℓ} : {P : Type ℓ} (sa sb tp tq a b v w : ℤ) → sa ≤ℤ pos 0 → pos 0 ≤ℤ sb → pos 0 <ℤ (sb -ℤ sa) → tp ≤ℤ pos 0 → pos 0 ≤ℤ tq → pos 0 <ℤ a → pos 0 <ℤ b → pos 0 <ℤ v → pos 0 <ℤ w → (sb *ℤ a) -ℤ (sa *ℤ b) ≡ (tp *ℤ w) -ℤ (tq *ℤ v) → P
+opposed {ℓ} : {P : Type ℓ} (sa sb tp tq a b v w : ℤ) → sa ≤ℤ pos 0 → pos 0 ≤ℤ sb → pos 0 <ℤ (sb -ℤ sa) → tp ≤ℤ pos 0 → pos 0 ≤ℤ tq
+    → pos 0 <ℤ a → pos 0 <ℤ b → pos 0 <ℤ v → pos 0 <ℤ w → (sb *ℤ a) -ℤ (sa *ℤ b) ≡ (tp *ℤ w) -ℤ (tq *ℤ v) → P
 opposed {P = P} sa sb tp tq a b v w h k some l m ha hb hv hw e =
     impossible_by {P = P} (sa ∷ sb ∷ tp ∷ tq ∷ a ∷ b ∷ v ∷ w ∷ [])
     (positive (var 1 ⊖ var 0) some
@@ -78,17 +79,20 @@ opposed {P = P} sa sb tp tq a b v w h k some l m ha hb hv hw e =
     ⊞ same (var 2 ⊗ var 7 ⊖ var 3 ⊗ var 6) (var 1 ⊗ var 4 ⊖ var 0 ⊗ var 5) (sym e)) refl
 
 -- a is at most to the right of the line through v and w, and b at least to its left
-parted_across : (v w a b : Point) → AreApart a b v w → turn v w a ≤ℤ pos 0 → pos 0 ≤ℤ turn v w b → pos 0 <ℤ (turn v w b -ℤ turn v w a) → ArePartedFrom v w a b
+parted_across : (v w a b : Point) → AreApart a b v w → turn v w a ≤ℤ pos 0 → pos 0 ≤ℤ turn v w b → pos 0 <ℤ (turn v w b -ℤ turn v w a)
+    → ArePartedFrom v w a b
 parted_across v w a b apart h k some = by_sign (turn a b v)
     (λ l. by_lt_z (turn a b w) (pos 0) (λ m. parted_by_edge' v w a b l m) (λ m. crossed (<ℤ_weaken l) m))
     (λ l. by_lt_z (pos 0) (turn a b w) (λ m. crossed (omega (arith, linear, l)) (<ℤ_weaken m)) (λ m. met (omega (arith, linear, l)) m))
     (λ l. by_lt_z (pos 0) (turn a b w) (λ m. parted_by_edge v w a b l m) (λ m. met (<ℤ_weaken l) m))
   where
     crossed : turn a b v ≤ℤ pos 0 → pos 0 ≤ℤ turn a b w → ArePartedFrom v w a b
-    crossed l m = opposed (turn v w a) (turn v w b) (turn a b v) (turn a b w) a.w b.w v.w w.w h k some l m a.heavy b.heavy v.heavy w.heavy (turn_weights a b v w)
+    crossed l m = opposed (turn v w a) (turn v w b) (turn a b v) (turn a b w) a.w b.w v.w w.w h k some l m a.heavy b.heavy v.heavy w.heavy
+        (turn_weights a b v w)
 
     met : pos 0 ≤ℤ turn a b v → turn a b w ≤ℤ pos 0 → ArePartedFrom v w a b
-    met l m = absurd ((no_weights a b v w apart).one (record { first = h; second = k; third = l; fourth = m; some = omega (arith, linear, some, l, m) }))
+    met l m = absurd ((no_weights a b v w apart).one
+        (record { first = h; second = k; third = l; fourth = m; some = omega (arith, linear, some, l, m) }))
 
 flipped_apart : {a b v w : Point} → AreApart a b v w → AreApart b a v w
 flipped_apart apart = record { none = λ m h k. apart.none m (segment_flip h) k }
@@ -100,12 +104,16 @@ pub record AreOnLine (v w a b : Point) : Type 0 where
 
 parted : (v w a b : Point) → IsWhole a → IsWhole b → AreApart a b v w → ArePartedFrom v w a b ⊎ AreOnLine v w a b
 parted v w a b ha hb apart = by_sign (turn v w a)
-    (λ h. by_lt_z (turn v w b) (pos 0) (λ k. inl (parted_right v w a b ha hb h k)) (λ k. inl (parted_across v w a b apart (<ℤ_weaken h) k (omega (arith, linear, h, k)))))
+    (λ h. by_lt_z (turn v w b) (pos 0) (λ k. inl (parted_right v w a b ha hb h k))
+    (λ k. inl (parted_across v w a b apart (<ℤ_weaken h) k (omega (arith, linear, h, k)))))
     (λ h. by_sign (turn v w b)
-    (λ k. inl (parted_ends (parted_across v w b a (flipped_apart apart) (<ℤ_weaken k) (omega (arith, linear, h)) (omega (arith, linear, h, k)))))
+    (λ k. inl (parted_ends
+    (parted_across v w b a (flipped_apart apart) (<ℤ_weaken k) (omega (arith, linear, h)) (omega (arith, linear, h, k)))))
     (λ k. inr (record { first = h; second = k }))
     (λ k. inl (parted_across v w a b apart (omega (arith, linear, h)) (<ℤ_weaken k) (omega (arith, linear, h, k)))))
-    (λ h. by_lt_z (pos 0) (turn v w b) (λ k. inl (parted_left v w a b ha hb h k)) (λ k. inl (parted_ends (parted_across v w b a (flipped_apart apart) k (<ℤ_weaken h) (omega (arith, linear, h, k))))))
+    (λ h. by_lt_z (pos 0) (turn v w b) (λ k. inl (parted_left v w a b ha hb h k))
+    (λ k. inl (parted_ends (parted_across v w b a (flipped_apart apart) k (<ℤ_weaken h) (omega (arith, linear, h, k))))))
 
-pub edge_parted : (v w : Point) (e : Seg) → AreApart (point_of e.a) (point_of e.b) v w → ArePartedFrom v w (point_of e.a) (point_of e.b) ⊎ AreOnLine v w (point_of e.a) (point_of e.b)
+pub edge_parted : (v w : Point) (e : Seg) → AreApart (point_of e.a) (point_of e.b) v w → ArePartedFrom v w (point_of e.a) (point_of e.b)
+    ⊎ AreOnLine v w (point_of e.a) (point_of e.b)
 edge_parted v w e = parted v w (point_of e.a) (point_of e.b) (record { one = refl }) (record { one = refl })

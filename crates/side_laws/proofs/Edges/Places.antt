@@ -25,19 +25,22 @@ abbrev IsChain : Pt → List Seg → Pt → Type 0
 IsChain p [] q = p ≡ q
 IsChain p (e ∷ edges) q = (e.a ≡ p) × (is_same_position e.a e.b ≡ false) × IsChain e.b edges q
 
-chain_before : (same : Bool) (p q last : Pt) (edges : List Seg) → is_same_position p q ≡ same → IsChain q edges last → IsChain p (edge_before same p q edges) last
+chain_before : (same : Bool) (p q last : Pt) (edges : List Seg) → is_same_position p q ≡ same → IsChain q edges last
+    → IsChain p (edge_before same p q edges) last
 chain_before true p q last edges h chain = subst (λ v. IsChain v edges last) (sym (same_position p q h)) chain
 chain_before false p q last edges h chain = (refl, h, chain)
 
 chain_after : (p : Pt) (others : List Pt) → IsChain p (edges_after p others) (last_after p others)
 chain_after p [] = refl
-chain_after p (q ∷ others) = chain_before (is_same_position p q) p q (last_after q others) (edges_after q others) refl (chain_after q others)
+chain_after p (q ∷ others) = chain_before (is_same_position p q) p q (last_after q others) (edges_after q others) refl
+    (chain_after q others)
 
 chain_first : (p q : Pt) (edges : List Seg) (e : Seg) → IsChain p edges q → IsAtPlace edges 0 e → e.a ≡ p
 chain_first p q [] e chain is = cc
 chain_first p q (f ∷ edges) e chain is = ap (λ g. g.a) (sym (some_same is)) ∙ chain.0
 
-chain_next : (p q : Pt) (edges : List Seg) (i : ℕ) (e f : Seg) → IsChain p edges q → IsAtPlace edges i e → IsAtPlace edges (suc i) f → f.a ≡ e.b
+chain_next : (p q : Pt) (edges : List Seg) (i : ℕ) (e f : Seg) → IsChain p edges q → IsAtPlace edges i e → IsAtPlace edges (suc i) f
+    → f.a ≡ e.b
 chain_next p q [] i e f chain is_e is_f = cc
 chain_next p q (g ∷ edges) zero e f chain is_e is_f = chain_first g.b q edges f chain.2 is_f ∙ ap (λ h. h.b) (some_same is_e)
 chain_next p q (g ∷ edges) (suc i) e f chain is_e is_f = chain_next g.b q edges i e f chain.2 is_e is_f
@@ -68,9 +71,12 @@ pub record IsSimple (edges : List Seg) : Type 0 where
   pub chained : (i : ℕ) (e f : Seg) → IsAtPlace edges i e → IsAtPlace edges (suc i) f → f.a ≡ e.b
   pub closed : (n : ℕ) (e f : Seg) → suc n ≡ length edges → IsAtPlace edges n e → IsAtPlace edges 0 f → f.a ≡ e.b
   pub moving : (i : ℕ) (e : Seg) → IsAtPlace edges i e → ¬ IsSamePoint (point_of e.a) (point_of e.b)
-  pub simple : (i j : ℕ) (e f : Seg) → i < j → IsAtPlace edges i e → IsAtPlace edges j f → (p : Point) → IsOnEdge e p → IsOnEdge f p → ¬ IsJoint edges i j e f p → ⊥
+  pub simple : (i j : ℕ) (e f : Seg) → i < j → IsAtPlace edges i e → IsAtPlace edges j f → (p : Point) → IsOnEdge e p → IsOnEdge f p
+      → ¬ IsJoint edges i j e f p → ⊥
 
-simple_from : (p q : Pt) (edges : List Seg) → IsChain p edges q → q ≡ p → ((i j : ℕ) (e f : Seg) → i < j → IsAtPlace edges i e → IsAtPlace edges j f → (v : Point) → IsOnEdge e v → IsOnEdge f v → ¬ IsJoint edges i j e f v → ⊥) → IsSimple edges
+simple_from : (p q : Pt) (edges : List Seg) → IsChain p edges q → q ≡ p
+    → ((i j : ℕ) (e f : Seg) → i < j → IsAtPlace edges i e → IsAtPlace edges j f → (v : Point) → IsOnEdge e v → IsOnEdge f v
+    → ¬ IsJoint edges i j e f v → ⊥) → IsSimple edges
 simple_from p q edges chain closed simple = record {
   chained = λ i e f is_e is_f. chain_next p q edges i e f chain is_e is_f;
   closed = λ n e f long is_e is_f. chain_first p q edges f chain is_f ∙ sym (chain_last p q edges n e chain long is_e ∙ closed);
@@ -88,14 +94,28 @@ ring_is_simple [] closed uncrossed = record {
 ring_is_simple (p ∷ others) closed uncrossed =
     simple_from p (last_after p others) (edges_after p others) (chain_after p others) (closed_last p others closed)
     (λ i j e f before is_e is_f v on_e on_f unjoined.
-    uncrossed (record { i = i; j = j; earlier = before; e = e; f = f; e_is = is_e; f_is = is_f; p = v; on_e = on_e; on_f = on_f; unjoined = unjoined }))
+    uncrossed (record {
+      i = i;
+      j = j;
+      earlier = before;
+      e = e;
+      f = f;
+      e_is = is_e;
+      f_is = is_f;
+      p = v;
+      on_e = on_e;
+      on_f =
+          on_f;
+      unjoined = unjoined;
+    }))
 
 -- ---- where edges of such a ring meet
 at_start : (u w : Pt) (p : Point) → u ≡ w → IsSamePoint (point_of u) p → IsSamePoint (point_of w) p
 at_start u w p h = subst (λ v. IsSamePoint (point_of v) p) h
 
 -- a point of an edge that is neither of its ends is on no other edge
-pub alone_within : {edges : List Seg} → IsSimple edges → (i j : ℕ) (e f : Seg) → ¬ (i ≡ j) → IsAtPlace edges i e → IsAtPlace edges j f → (p : Point) → ¬ IsSamePoint (point_of e.a) p → ¬ IsSamePoint (point_of e.b) p → IsOnEdge e p → IsOnEdge f p → ⊥
+pub alone_within : {edges : List Seg} → IsSimple edges → (i j : ℕ) (e f : Seg) → ¬ (i ≡ j) → IsAtPlace edges i e → IsAtPlace edges j f
+    → (p : Point) → ¬ IsSamePoint (point_of e.a) p → ¬ IsSamePoint (point_of e.b) p → IsOnEdge e p → IsOnEdge f p → ⊥
 alone_within {edges} s i j e f apart is_e is_f p not_a not_b on_e on_f = go (cases_order i j)
   where
     earlier : IsJoint edges i j e f p → ⊥
@@ -112,7 +132,8 @@ alone_within {edges} s i j e f apart is_e is_f p not_a not_b on_e on_f = go (cas
     go (inr (inr h)) = s.simple j i f e h is_f is_e p on_f on_e later
 
 -- no third edge has the joint of two neighbours
-pub alone_at_joint : {edges : List Seg} → IsSimple edges → (i j : ℕ) (e f g : Seg) → ¬ (i ≡ j) → ¬ (suc i ≡ j) → IsAtPlace edges i e → IsAtPlace edges (suc i) f → IsAtPlace edges j g → IsOnEdge g (point_of e.b) → ⊥
+pub alone_at_joint : {edges : List Seg} → IsSimple edges → (i j : ℕ) (e f g : Seg) → ¬ (i ≡ j) → ¬ (suc i ≡ j) → IsAtPlace edges i e
+    → IsAtPlace edges (suc i) f → IsAtPlace edges j g → IsOnEdge g (point_of e.b) → ⊥
 alone_at_joint {edges} s i j e f g apart apart' is_e is_f is_g on_g = go (cases_order i j)
   where
     earlier : IsJoint edges i j e g (point_of e.b) → ⊥
@@ -129,11 +150,15 @@ alone_at_joint {edges} s i j e f g apart apart' is_e is_f is_g on_g = go (cases_
     go (inr (inr h)) = s.simple j i g e h is_g is_e (point_of e.b) on_g (end_on_segment (point_of e.a) (point_of e.b)) later
 
 -- ---- lists of edges by places
-pub off_by_places : (p : Point) (edges : List Seg) → ((i : ℕ) (e : Seg) → IsAtPlace edges i e → is_on_edge p e ≡ false) → is_on_edges p edges ≡ false
+pub off_by_places : (p : Point) (edges : List Seg) → ((i : ℕ) (e : Seg) → IsAtPlace edges i e → is_on_edge p e ≡ false)
+    → is_on_edges p edges ≡ false
 off_by_places p [] h = refl
-off_by_places p (e ∷ edges) h = or_from (is_on_edge p e) (is_on_edges p edges) (h 0 e refl) (off_by_places p edges (λ i f is. h (suc i) f is))
+off_by_places p (e ∷ edges) h = or_from (is_on_edge p e) (is_on_edges p edges) (h 0 e refl)
+    (off_by_places p edges (λ i f is. h (suc i) f is))
 
-pub off_others_by_places : (p : Point) (edges : List Seg) (i : ℕ) → ((j : ℕ) (e : Seg) → ¬ (i ≡ j) → IsAtPlace edges j e → is_on_edge p e ≡ false) → is_on_edges p (take i edges ++ drop (suc i) edges) ≡ false
+pub off_others_by_places : (p : Point) (edges : List Seg) (i : ℕ)
+    → ((j : ℕ) (e : Seg) → ¬ (i ≡ j) → IsAtPlace edges j e → is_on_edge p e ≡ false)
+    → is_on_edges p (take i edges ++ drop (suc i) edges) ≡ false
 off_others_by_places p [] zero h = refl
 off_others_by_places p [] (suc i) h = refl
 off_others_by_places p (e ∷ edges) zero h = off_by_places p edges (λ j f is. h (suc j) f (λ z. omega (arith, z)) is)

@@ -34,13 +34,16 @@ use Rattle.side_laws.proofs.Edges.Beside.{IsBesideAt, by_hand, side_of}
 use Rattle.side_laws.proofs.Edges.Parted.{ArePartedFrom, AreOnLine, edge_parted}
 
 -- ---- a segment between two points to one side of an edge's line doesn't meet what lies on that line
-pub turn_between : (s : Bool) (e : Seg) {p q m : Point} → HasSign s (edge_turn e p) → HasSign s (edge_turn e q) → IsOnSegment p q m → HasSign s (edge_turn e m)
+pub turn_between : (s : Bool) (e : Seg) {p q m : Point} → HasSign s (edge_turn e p) → HasSign s (edge_turn e q) → IsOnSegment p q m
+    → HasSign s (edge_turn e m)
 unfolding edge_turn
 turn_between s e {p} {q} {m} hp hq on =
-    signed_sum s on.mix.times on.s on.t (edge_turn e p) (edge_turn e q) (edge_turn e m) on.mix.some on.mix.first on.mix.second (some_weight on.mix)
+    signed_sum s on.mix.times on.s on.t (edge_turn e p) (edge_turn e q) (edge_turn e m) on.mix.some on.mix.first on.mix.second
+    (some_weight on.mix)
     (turn_mix (point_of e.a) (point_of e.b) on.mix) hp hq
 
-pub no_turn_on : (e f : Seg) {m : Point} → edge_turn e (point_of f.a) ≡ pos 0 → edge_turn e (point_of f.b) ≡ pos 0 → IsOnEdge f m → edge_turn e m ≡ pos 0
+pub no_turn_on : (e f : Seg) {m : Point} → edge_turn e (point_of f.a) ≡ pos 0 → edge_turn e (point_of f.b) ≡ pos 0 → IsOnEdge f m
+    → edge_turn e m ≡ pos 0
 unfolding edge_turn
 no_turn_on e f {m} ha hb on =
     zero_factor on.mix.times (edge_turn e m) (pos_nonzero on.mix.some)
@@ -48,12 +51,15 @@ no_turn_on e f {m} ha hb on =
     ∙ (λ i. (on.s *ℤ ha i) +ℤ (on.t *ℤ hb i)) ∙ (λ i. *ℤ-zero on.s i +ℤ *ℤ-zero on.t i))
 
 -- the same for what an affine function parts from both points
-pub positive_between : (f : Affine) {p q m : Point} → pos 0 <ℤ at_point f p → pos 0 <ℤ at_point f q → IsOnSegment p q m → pos 0 <ℤ at_point f m
+pub positive_between : (f : Affine) {p q m : Point} → pos 0 <ℤ at_point f p → pos 0 <ℤ at_point f q → IsOnSegment p q m
+    → pos 0 <ℤ at_point f m
 positive_between f {p} {q} {m} hp hq on =
-    signed_sum true on.mix.times on.s on.t (at_point f p) (at_point f q) (at_point f m) on.mix.some on.mix.first on.mix.second (some_weight on.mix)
+    signed_sum true on.mix.times on.s on.t (at_point f p) (at_point f q) (at_point f m) on.mix.some on.mix.first on.mix.second
+    (some_weight on.mix)
     (affine_mix f on.mix) hp hq
 
-pub parted_off : {v w p q m : Point} (f : Seg) (h : ArePartedFrom v w (point_of f.a) (point_of f.b)) → pos 0 <ℤ at_point h.by p → pos 0 <ℤ at_point h.by q → IsOnSegment p q m → IsOnEdge f m → ⊥
+pub parted_off : {v w p q m : Point} (f : Seg) (h : ArePartedFrom v w (point_of f.a) (point_of f.b)) → pos 0 <ℤ at_point h.by p
+    → pos 0 <ℤ at_point h.by q → IsOnSegment p q m → IsOnEdge f m → ⊥
 parted_off f h hp hq on on_f = <ℤ_irrefl (<ℤ-≤ℤ_trans (positive_between h.by hp hq on) (affine_on h.by on_f h.first h.second))
 
 -- ---- the strip
@@ -68,9 +74,11 @@ AreBeyond Set v w (f ∷ edges) = IsBeyond Set v w f × AreBeyond Set v w edges
 -- from some n on, no point of the set on a segment between v + d/n and w + d'/l is on an edge
 pub record HasStrip (Set : Point → Type 0) (v w : Point) (d d' : Direction) (edges : List Seg) : Type 0 where
   pub from : ℕ
-  pub free : (n l : ℕ) → from < n → from < l → (p q m : Point) → IsAway v d n p → IsAway w d' l q → IsOnSegment p q m → Set m → is_on_edges m edges ≡ false
+  pub free : (n l : ℕ) → from < n → from < l → (p q m : Point) → IsAway v d n p → IsAway w d' l q → IsOnSegment p q m → Set m
+      → is_on_edges m edges ≡ false
 
-strip_more : (Set : Point → Type 0) (v w : Point) (d d' : Direction) (f : Seg) (edges : List Seg) → HasStrip Set v w d d' edges → IsBeyond Set v w f → HasStrip Set v w d d' (f ∷ edges)
+strip_more : (Set : Point → Type 0) (v w : Point) (d d' : Direction) (f : Seg) (edges : List Seg) → HasStrip Set v w d d' edges
+    → IsBeyond Set v w f → HasStrip Set v w d d' (f ∷ edges)
 strip_more Set v w d d' f edges rest (inl h) = record {
   from = (far_for d (reach_of h.by v) + far_for d' (reach_of h.by w)) + rest.from;
   free = λ n l far far' p q m away away' on held.
@@ -86,12 +94,14 @@ strip_more Set v w d d' f edges rest (inr h) = record {
       or_from (is_on_edge m f) (is_on_edges m edges) (off_edge f m (h m held)) (rest.free n l far far' p q m away away' on held);
 }
 
-pub strip : (Set : Point → Type 0) (v w : Point) (d d' : Direction) (edges : List Seg) → AreBeyond Set v w edges → HasStrip Set v w d d' edges
+pub strip : (Set : Point → Type 0) (v w : Point) (d d' : Direction) (edges : List Seg) → AreBeyond Set v w edges
+    → HasStrip Set v w d d' edges
 strip Set v w d d' [] beyond = record { from = 0; free = λ n l far far' p q m away away' on held. refl }
 strip Set v w d d' (f ∷ edges) beyond = strip_more Set v w d d' f edges (strip Set v w d d' edges beyond.1) beyond.0
 
 -- ---- two points strictly between an edge's ends
-within_weight : (s t k l u w : ℤ) → pos 0 ≤ℤ s → pos 0 ≤ℤ t → pos 0 <ℤ (s +ℤ t) → pos 0 <ℤ k → pos 0 <ℤ l → pos 0 <ℤ u → pos 0 <ℤ w → pos 0 <ℤ (((s *ℤ k) *ℤ u) +ℤ ((t *ℤ l) *ℤ w))
+within_weight : (s t k l u w : ℤ) → pos 0 ≤ℤ s → pos 0 ≤ℤ t → pos 0 <ℤ (s +ℤ t) → pos 0 <ℤ k → pos 0 <ℤ l → pos 0 <ℤ u → pos 0 <ℤ w
+    → pos 0 <ℤ (((s *ℤ k) *ℤ u) +ℤ ((t *ℤ l) *ℤ w))
 within_weight s t k l u w hs ht h hk hl hu hw =
     signed_sum true (pos 1) s t ((k *ℤ u)) ((l *ℤ w)) (((s *ℤ k) *ℤ u) +ℤ ((t *ℤ l) *ℤ w)) (omega (arith, linear)) hs ht h
     (same_from (num (pos 1) ⊗ ((var 0 ⊗ var 2) ⊗ var 4 ⊕ (var 1 ⊗ var 3) ⊗ var 5)) (var 0 ⊗ (var 2 ⊗ var 4) ⊕ var 1 ⊗ (var 3 ⊗ var 5))
@@ -103,8 +113,10 @@ between_within {a} {b} {v} {w} {m} hv hw on = record {
   s = ((on.s *ℤ hw.mix.times) *ℤ hv.s) +ℤ ((on.t *ℤ hv.mix.times) *ℤ hw.s);
   t = ((on.s *ℤ hw.mix.times) *ℤ hv.t) +ℤ ((on.t *ℤ hv.mix.times) *ℤ hw.t);
   mix = mix_within hv.mix hw.mix on.mix;
-  some_first = within_weight on.s on.t hw.mix.times hv.mix.times hv.s hw.s on.mix.first on.mix.second (some_weight on.mix) hw.mix.some hv.mix.some hv.some_first hw.some_first;
-  some_second = within_weight on.s on.t hw.mix.times hv.mix.times hv.t hw.t on.mix.first on.mix.second (some_weight on.mix) hw.mix.some hv.mix.some hv.some_second hw.some_second;
+  some_first = within_weight on.s on.t hw.mix.times hv.mix.times hv.s hw.s on.mix.first on.mix.second
+      (some_weight on.mix) hw.mix.some hv.mix.some hv.some_first hw.some_first;
+  some_second = within_weight on.s on.t hw.mix.times hv.mix.times hv.t hw.t on.mix.first on.mix.second
+      (some_weight on.mix) hw.mix.some hv.mix.some hv.some_second hw.some_second;
   apart = hv.apart;
 }
 
@@ -112,7 +124,8 @@ between_within {a} {b} {v} {w} {m} hv hw on = record {
 order_of : {a b v w : Point} {s t s' t' : ℤ} → IsMix a b v s t → IsMix a b w s' t' → ℤ
 order_of {a} {b} {v} {w} {s} {t} {s'} {t'} h k = (s *ℤ t') -ℤ (t *ℤ s')
 
-turn_of_parts : {a b v w : Point} {s t s' t' : ℤ} (h : IsMix a b v s t) (k : IsMix a b w s' t') (x : Point) → (h.times *ℤ k.times) *ℤ turn v w x ≡ order_of h k *ℤ turn a b x
+turn_of_parts : {a b v w : Point} {s t s' t' : ℤ} (h : IsMix a b v s t) (k : IsMix a b w s' t') (x : Point)
+    → (h.times *ℤ k.times) *ℤ turn v w x ≡ order_of h k *ℤ turn a b x
 unfolding turn order_of
 turn_of_parts {a} {b} {v} {w} {s} {t} {s'} {t'} h k x =
     let pa = point_at 6 in
@@ -126,12 +139,17 @@ turn_of_parts {a} {b} {v} {w} {s} {t} {s'} {t'} h k x =
     (scaled (k' ⊗ (pw.y ⊗ px.w ⊖ pw.w ⊗ px.y)) (same (var 0 ⊗ pv.x) (var 2 ⊗ pa.x ⊕ var 3 ⊗ pb.x) h.across)
     ⊞ scaled (minus (k' ⊗ (pw.x ⊗ px.w ⊖ pw.w ⊗ px.x))) (same (var 0 ⊗ pv.y) (var 2 ⊗ pa.y ⊕ var 3 ⊗ pb.y) h.above)
     ⊞ scaled (k' ⊗ (pw.x ⊗ px.y ⊖ pw.y ⊗ px.x)) (same (var 0 ⊗ pv.w) (var 2 ⊗ pa.w ⊕ var 3 ⊗ pb.w) h.mass)
-    ⊞ scaled (minus ((var 2 ⊗ pa.y ⊕ var 3 ⊗ pb.y) ⊗ px.w ⊖ (var 2 ⊗ pa.w ⊕ var 3 ⊗ pb.w) ⊗ px.y)) (same (k' ⊗ pw.x) (var 4 ⊗ pa.x ⊕ var 5 ⊗ pb.x) k.across)
-    ⊞ scaled ((var 2 ⊗ pa.x ⊕ var 3 ⊗ pb.x) ⊗ px.w ⊖ (var 2 ⊗ pa.w ⊕ var 3 ⊗ pb.w) ⊗ px.x) (same (k' ⊗ pw.y) (var 4 ⊗ pa.y ⊕ var 5 ⊗ pb.y) k.above)
-    ⊞ scaled (minus ((var 2 ⊗ pa.x ⊕ var 3 ⊗ pb.x) ⊗ px.y ⊖ (var 2 ⊗ pa.y ⊕ var 3 ⊗ pb.y) ⊗ px.x)) (same (k' ⊗ pw.w) (var 4 ⊗ pa.w ⊕ var 5 ⊗ pb.w) k.mass)) refl
+    ⊞ scaled (minus ((var 2 ⊗ pa.y ⊕ var 3 ⊗ pb.y) ⊗ px.w ⊖ (var 2 ⊗ pa.w ⊕ var 3 ⊗ pb.w) ⊗ px.y))
+    (same (k' ⊗ pw.x) (var 4 ⊗ pa.x ⊕ var 5 ⊗ pb.x) k.across)
+    ⊞ scaled ((var 2 ⊗ pa.x ⊕ var 3 ⊗ pb.x) ⊗ px.w ⊖ (var 2 ⊗ pa.w ⊕ var 3 ⊗ pb.w) ⊗ px.x)
+    (same (k' ⊗ pw.y) (var 4 ⊗ pa.y ⊕ var 5 ⊗ pb.y) k.above)
+    ⊞ scaled (minus ((var 2 ⊗ pa.x ⊕ var 3 ⊗ pb.x) ⊗ px.y ⊖ (var 2 ⊗ pa.y ⊕ var 3 ⊗ pb.y) ⊗ px.x))
+    (same (k' ⊗ pw.w) (var 4 ⊗ pa.w ⊕ var 5 ⊗ pb.w) k.mass)) refl
 
 -- two mixes in one proportion are the same point
-parts_across : (k l s t s' t' a aw b bw v vw w ww : ℤ) → k *ℤ v ≡ (s *ℤ a) +ℤ (t *ℤ b) → k *ℤ vw ≡ (s *ℤ aw) +ℤ (t *ℤ bw) → l *ℤ w ≡ (s' *ℤ a) +ℤ (t' *ℤ b) → l *ℤ ww ≡ (s' *ℤ aw) +ℤ (t' *ℤ bw) → (k *ℤ l) *ℤ ((v *ℤ ww) -ℤ (w *ℤ vw)) ≡ ((s *ℤ t') -ℤ (t *ℤ s')) *ℤ ((a *ℤ bw) -ℤ (b *ℤ aw))
+parts_across : (k l s t s' t' a aw b bw v vw w ww : ℤ) → k *ℤ v ≡ (s *ℤ a) +ℤ (t *ℤ b) → k *ℤ vw ≡ (s *ℤ aw) +ℤ (t *ℤ bw)
+    → l *ℤ w ≡ (s' *ℤ a) +ℤ (t' *ℤ b) → l *ℤ ww ≡ (s' *ℤ aw) +ℤ (t' *ℤ bw)
+    → (k *ℤ l) *ℤ ((v *ℤ ww) -ℤ (w *ℤ vw)) ≡ ((s *ℤ t') -ℤ (t *ℤ s')) *ℤ ((a *ℤ bw) -ℤ (b *ℤ aw))
 parts_across k l s t s' t' a aw b bw v vw w ww e f g h =
     same_from ((var 0 ⊗ var 1) ⊗ (var 10 ⊗ var 13 ⊖ var 12 ⊗ var 11)) ((var 2 ⊗ var 5 ⊖ var 3 ⊗ var 4) ⊗ (var 6 ⊗ var 9 ⊖ var 8 ⊗ var 7))
     (k ∷ l ∷ s ∷ t ∷ s' ∷ t' ∷ a ∷ aw ∷ b ∷ bw ∷ v ∷ vw ∷ w ∷ ww ∷ [])
@@ -155,10 +173,12 @@ same_parts {a} {b} {v} {w} {s} {t} {s'} {t'} h k none = record {
 }
 
 -- ---- along an edge
-away_same_axis : (p pw v vw w ww n d : ℤ) → pos 0 <ℤ vw → v *ℤ ww ≡ w *ℤ vw → p *ℤ (vw *ℤ n) ≡ ((v *ℤ n) +ℤ (d *ℤ vw)) *ℤ pw → p *ℤ (ww *ℤ n) ≡ ((w *ℤ n) +ℤ (d *ℤ ww)) *ℤ pw
+away_same_axis : (p pw v vw w ww n d : ℤ) → pos 0 <ℤ vw → v *ℤ ww ≡ w *ℤ vw → p *ℤ (vw *ℤ n) ≡ ((v *ℤ n) +ℤ (d *ℤ vw)) *ℤ pw
+    → p *ℤ (ww *ℤ n) ≡ ((w *ℤ n) +ℤ (d *ℤ ww)) *ℤ pw
 away_same_axis p pw v vw w ww n d hv e f =
     cancel_≡ vw (p *ℤ (ww *ℤ n)) (((w *ℤ n) +ℤ (d *ℤ ww)) *ℤ pw) (pos_nonzero hv)
-    (same_from (var 3 ⊗ (var 0 ⊗ (var 5 ⊗ var 6))) (var 3 ⊗ ((var 4 ⊗ var 6 ⊕ var 7 ⊗ var 5) ⊗ var 1)) (p ∷ pw ∷ v ∷ vw ∷ w ∷ ww ∷ n ∷ d ∷ [])
+    (same_from (var 3 ⊗ (var 0 ⊗ (var 5 ⊗ var 6))) (var 3 ⊗ ((var 4 ⊗ var 6 ⊕ var 7 ⊗ var 5) ⊗ var 1))
+    (p ∷ pw ∷ v ∷ vw ∷ w ∷ ww ∷ n ∷ d ∷ [])
     (scaled (var 5) (same (var 0 ⊗ (var 3 ⊗ var 6)) ((var 2 ⊗ var 6 ⊕ var 7 ⊗ var 3) ⊗ var 1) f)
     ⊞ scaled (var 6 ⊗ var 1) (same (var 2 ⊗ var 5) (var 4 ⊗ var 3) e)) refl)
 
@@ -170,15 +190,20 @@ away_same {v} {w} {d} {n} {p} h away = record {
 
 pub beside_same : {ring : List Pt} {e : Seg} {v w : Point} {b : Bool} → IsSamePoint v w → IsBesideAt ring e v b → IsBesideAt ring e w b
 beside_same {ring} {e} {v} {w} {b} same h = record {
-  along = λ s d to. record { from = (h.along s d to).from; holds = λ n far p away. (h.along s d to).holds n far p (away_same (same_sym same) away) };
+  along = λ s d to. record
+      { from = (h.along s d to).from; holds = λ n far p away. (h.along s d to).holds n far p (away_same (same_sym same) away) };
 }
 
-pub beyond_by_places : (Set : Point → Type 0) (v w : Point) (edges : List Seg) → ((j : ℕ) (f : Seg) → IsAtPlace edges j f → IsBeyond Set v w f) → AreBeyond Set v w edges
+pub beyond_by_places : (Set : Point → Type 0) (v w : Point) (edges : List Seg)
+    → ((j : ℕ) (f : Seg) → IsAtPlace edges j f → IsBeyond Set v w f) → AreBeyond Set v w edges
 beyond_by_places Set v w [] h = tt
 beyond_by_places Set v w (f ∷ edges) h = (h 0 f refl, beyond_by_places Set v w edges (λ j g is. h (suc j) g is))
 
 -- what holds near one end of a strip holds near the other
-pub carried_over : (ring : List Pt) → IsClosed ring → (Set : Point → Type 0) (v w : Point) (d d' : Direction) (b : Bool) → HasStrip Set v w d d' (edges_of ring) → HoldsAlong (λ p. is_inside p ring ≡ b) v d → (from : ℕ) → ((n l : ℕ) → from < n → from < l → (p q m : Point) → IsAway v d n p → IsAway w d' l q → IsOnSegment p q m → Set m) → HoldsAlong (λ q. is_inside q ring ≡ b) w d'
+pub carried_over : (ring : List Pt) → IsClosed ring → (Set : Point → Type 0) (v w : Point) (d d' : Direction) (b : Bool)
+    → HasStrip Set v w d d' (edges_of ring) → HoldsAlong (λ p. is_inside p ring ≡ b) v d → (from : ℕ)
+    → ((n l : ℕ) → from < n → from < l → (p q m : Point) → IsAway v d n p → IsAway w d' l q → IsOnSegment p q m → Set m)
+    → HoldsAlong (λ q. is_inside q ring ≡ b) w d'
 carried_over ring closed Set v w d d' b st h from held =
     let n = (st.from + h.from) + from in
     let p = away_point v d n in
@@ -187,19 +212,25 @@ carried_over ring closed Set v w d d' b st h from held =
       from = st.from + from;
       holds = λ l far q away'.
           sym (inside_stays p q ring closed (record {
-            off = λ m on. st.free (suc n) l (omega arith) (omega (arith, far)) p q m away away' on (held (suc n) l (omega arith) (omega (arith, far)) p q m away away' on);
+            off = λ m on. st.free (suc n) l (omega arith) (omega (arith, far)) p q m away away' on
+                (held (suc n) l (omega arith) (omega (arith, far)) p q m away away' on);
           }))
           ∙ h.holds (suc n) (omega arith) p away;
     }
 
-pub along_edge : (ring : List Pt) → IsClosed ring → IsSimple (edges_of ring) → (i : ℕ) (e : Seg) → IsAtPlace (edges_of ring) i e → (v w : Point) → IsStrictlyBetween (point_of e.a) (point_of e.b) v → IsStrictlyBetween (point_of e.a) (point_of e.b) w → (b : Bool) → IsBesideAt ring e v b → IsBesideAt ring e w b
+pub along_edge : (ring : List Pt) → IsClosed ring → IsSimple (edges_of ring) → (i : ℕ) (e : Seg) → IsAtPlace (edges_of ring) i e
+    → (v w : Point) → IsStrictlyBetween (point_of e.a) (point_of e.b) v → IsStrictlyBetween (point_of e.a) (point_of e.b) w → (b : Bool)
+    → IsBesideAt ring e v b → IsBesideAt ring e w b
 unfolding edge_turn
-along_edge ring closed simple i e is v w hv hw b h = by_sign (order_of hv.mix hw.mix) (λ k. apart (<ℤ_apart k)) (λ k. beside_same (same_parts hv.mix hw.mix k) h) (λ k. apart (pos_nonzero k))
+along_edge ring closed simple i e is v w hv hw b h = by_sign (order_of hv.mix hw.mix) (λ k. apart (<ℤ_apart k))
+    (λ k. beside_same (same_parts hv.mix hw.mix k) h) (λ k. apart (pos_nonzero k))
   where
-    off_line : (s : Bool) (f : Seg) → edge_turn e (point_of f.a) ≡ pos 0 → edge_turn e (point_of f.b) ≡ pos 0 → (m : Point) → HasSign s (edge_turn e m) → IsOnEdge f m → ⊥
+    off_line : (s : Bool) (f : Seg) → edge_turn e (point_of f.a) ≡ pos 0 → edge_turn e (point_of f.b) ≡ pos 0 → (m : Point)
+        → HasSign s (edge_turn e m) → IsOnEdge f m → ⊥
     off_line s f ha hb m to on_f = signed_nonzero s (edge_turn e m) to (no_turn_on e f ha hb on_f)
 
-    other_beyond : (s : Bool) → ¬ (order_of hv.mix hw.mix ≡ pos 0) → (f : Seg) → ArePartedFrom v w (point_of f.a) (point_of f.b) ⊎ AreOnLine v w (point_of f.a) (point_of f.b) → IsBeyond (λ m. HasSign s (edge_turn e m)) v w f
+    other_beyond : (s : Bool) → ¬ (order_of hv.mix hw.mix ≡ pos 0) → (f : Seg) → ArePartedFrom v w (point_of f.a) (point_of f.b)
+        ⊎ AreOnLine v w (point_of f.a) (point_of f.b) → IsBeyond (λ m. HasSign s (edge_turn e m)) v w f
     other_beyond s moves f (inl parted) = inl parted
     other_beyond s moves f (inr line) = inr (off_line s f (on_line (point_of f.a) line.first) (on_line (point_of f.b) line.second))
       where
@@ -212,10 +243,12 @@ along_edge ring closed simple i e is v w hv hw b h = by_sign (order_of hv.mix hw
     unmet j f differ is_f = record {
       none = λ m on_f on.
           let within = between_within hv hw on in
-          alone_within simple i j e f differ is is_f m (between_not_start within) (between_not_end within) (on_from_strictly_between within) on_f;
+          alone_within simple i j e f differ is is_f m (between_not_start within) (between_not_end within)
+          (on_from_strictly_between within) on_f;
     }
 
-    by_place : (s : Bool) → ¬ (order_of hv.mix hw.mix ≡ pos 0) → (j : ℕ) (f : Seg) → IsAtPlace (edges_of ring) j f → (i ≡ j) ⊎ (i ≡ j → ⊥) → IsBeyond (λ m. HasSign s (edge_turn e m)) v w f
+    by_place : (s : Bool) → ¬ (order_of hv.mix hw.mix ≡ pos 0) → (j : ℕ) (f : Seg) → IsAtPlace (edges_of ring) j f → (i ≡ j) ⊎ (i ≡ j → ⊥)
+        → IsBeyond (λ m. HasSign s (edge_turn e m)) v w f
     by_place s moves j f is_f (inl same) =
         inr (subst (λ g. (m : Point) → HasSign s (edge_turn e m) → IsOnEdge g m → ⊥)
         (some_same (sym is ∙ ap (slice_get (edges_of ring)) same ∙ is_f)) (off_line s e (edge_turn_ends e).0 (edge_turn_ends e).1))
@@ -229,5 +262,6 @@ along_edge ring closed simple i e is v w hv hw b h = by_sign (order_of hv.mix hw
           (beyond_by_places (λ m. HasSign s (edge_turn e m)) v w (edges_of ring) (λ j f is_f. by_place s moves j f is_f (cases_eq i j))))
           (h.along s d to) 0
           (λ n l some some' p q m away away' on.
-          turn_between s e (side_of s e (edge_turn_on e (on_from_strictly_between hv)) to some away) (side_of s e (edge_turn_on e (on_from_strictly_between hw)) to some' away') on);
+          turn_between s e (side_of s e (edge_turn_on e (on_from_strictly_between hv)) to some away)
+          (side_of s e (edge_turn_on e (on_from_strictly_between hw)) to some' away') on);
     }

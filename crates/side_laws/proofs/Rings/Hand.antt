@@ -27,7 +27,9 @@ earlier_edge (e ∷ edges) zero f is = record { e = e; is = refl }
 earlier_edge (e ∷ edges) (suc i) f is = let h = earlier_edge edges i f is in record { e = h.e; is = h.is }
 
 -- what holds beside one edge holds beside the first, and what holds beside the first holds beside each
-pub all_from_first : (ring : List Pt) → IsClosed ring → IsSimple (edges_of ring) → (left : Bool) → ((e : Seg) → IsAtPlace (edges_of ring) 0 e → IsBesideAll ring e left) → (i : ℕ) (e : Seg) → IsAtPlace (edges_of ring) i e → IsBesideAll ring e left
+pub all_from_first : (ring : List Pt) → IsClosed ring → IsSimple (edges_of ring) → (left : Bool)
+    → ((e : Seg) → IsAtPlace (edges_of ring) 0 e → IsBesideAll ring e left) → (i : ℕ) (e : Seg) → IsAtPlace (edges_of ring) i e
+    → IsBesideAll ring e left
 all_from_first ring closed simple left first zero e is = first e is
 all_from_first ring closed simple left first (suc i) e is =
     let before = earlier_edge (edges_of ring) i e is in
@@ -42,7 +44,8 @@ not_line : (b : Bool) → ¬ (hand_by b ≡ hand.Line)
 not_line true e = cc
 not_line false e = cc
 
-pub inside_hand : (ring : List Pt) (left : Bool) → ((i : ℕ) (e : Seg) → IsAtPlace (edges_of ring) i e → IsBesideAll ring e left) → IsInsideHand ring (hand_by left)
+pub inside_hand : (ring : List Pt) (left : Bool) → ((i : ℕ) (e : Seg) → IsAtPlace (edges_of ring) i e → IsBesideAll ring e left)
+    → IsInsideHand ring (hand_by left)
 inside_hand ring true all = record {
   sided = not_line true;
   inside = λ i e is p between d to. ((all i e is).at p between).along true d to;
@@ -76,7 +79,8 @@ first_side ring closed simple (e ∷ edges) some =
     record {
       side = hand_by has.left;
       is = inside_hand ring has.left (all_from_first ring closed simple has.left
-          (λ f is_f. subst (λ g. IsBesideAll ring g has.left) (some_same (sym is ∙ is_f)) (beside_all ring closed simple 0 e is v between has.left has.beside)));
+          (λ f is_f. subst (λ g. IsBesideAll ring g has.left) (some_same (sym is ∙ is_f))
+          (beside_all ring closed simple 0 e is v between has.left has.beside)));
     }
 
 pub some_inside_hand : (ring : List Pt) → IsClosed ring → ¬ CrossesItself ring → (side : Hand) × IsInsideHand ring side

@@ -1,4 +1,5 @@
--- On which hand the inside of a ring lies, from the number of crossings at a point of one edge. A short way from it to the right, or up, the ray to the right crosses the same edges.
+-- On which hand the inside of a ring lies, from the number of crossings at a point of one edge. A short way from it to the
+-- right, or up, the ray to the right crosses the same edges.
 use Rattle.std.proofs.Common.{◌≡◌, ◌⊎◌, inl, inr, ℕ, suc, ◌+◌, ◌<◌, ℤ, pos, neg_ℤ, ◌<ℤ◌, ◌≤ℤ◌, Bool, true, false, not, ◌&&◌, List, [], ◌∷◌, ap, refl, sym, ◌∙◌, subst, arith}
 use Rattle.std.specs.Prelude.{slice_get}
 use Rattle.std.specs.Bool.{MatchBool}
@@ -59,14 +60,16 @@ low_stays_along p v d h = go (is_low p v) (tells_low p v)
     go true low = record {
       from = 0;
       holds = λ n some q away.
-          same_tests (is_low q v) true {S = ⊥} (tells_low q v) (stays_low p q v (away_level h some away) low) (λ k l. l) (λ k l. <ℤ_irrefl (<ℤ-≤ℤ_trans k l));
+          same_tests (is_low q v) true {S = ⊥} (tells_low q v) (stays_low p q v (away_level h some away) low) (λ k l. l)
+          (λ k l. <ℤ_irrefl (<ℤ-≤ℤ_trans k l));
     }
     go false high = record {
       from = far_for d (reach_of (height_of v) p);
       holds = λ n far q away.
           same_tests (is_low q v) false {R = ⊥} (tells_low q v)
           (subst (λ z. pos 0 <ℤ z) (height_is v q)
-          (positive_near (height_of v) p q (reach_of (height_of v) p) (subst (λ z. pos 0 <ℤ z) (sym (height_is v p)) high) (omega arith) (away_near (reach_of (height_of v) p) far away)))
+          (positive_near (height_of v) p q (reach_of (height_of v) p) (subst (λ z. pos 0 <ℤ z) (sym (height_is v p)) high) (omega arith)
+          (away_near (reach_of (height_of v) p) far away)))
           (λ k l. <ℤ_irrefl (<ℤ-≤ℤ_trans l k)) (λ k l. l);
     }
 
@@ -87,7 +90,8 @@ on_by_heights a b p line low high =
         second = omega (arith, linear, low);
         times = rise a b;
         some = (heights a b p p (omega (arith, linear))).rising_ab low high;
-        across = same_from (rise_p pa pb ⊗ pp.x) (rise_p pp pb ⊗ pa.x ⊕ rise_p pa pp ⊗ pb.x) vs (scaled (minus (num (pos 1))) (same (turn_poly pa pb pp) (num (pos 0)) line)) refl;
+        across = same_from (rise_p pa pb ⊗ pp.x) (rise_p pp pb ⊗ pa.x ⊕ rise_p pa pp ⊗ pb.x) vs
+            (scaled (minus (num (pos 1))) (same (turn_poly pa pb pp) (num (pos 0)) line)) refl;
         above = identity (rise_p pa pb ⊗ pp.y) (rise_p pp pb ⊗ pa.y ⊕ rise_p pa pp ⊗ pb.y) vs refl;
         mass = identity (rise_p pa pb ⊗ pp.w) (rise_p pp pb ⊗ pa.w ⊕ rise_p pa pp ⊗ pb.w) vs refl;
       };
@@ -97,11 +101,14 @@ turned_line : (f : Seg) (p : Point) → edge_turn f p ≡ pos 0 → turn (point_
 unfolding edge_turn
 turned_line f p z = omega (arith, linear, turn_swap (point_of f.a) (point_of f.b) p, z)
 
-no_crossing_held : (f : Seg) (p : Point) → (IsOnEdge f p → ⊥) → (l m : Bool) → MatchBool l (rise p (point_of f.a) ≤ℤ pos 0) (pos 0 <ℤ rise p (point_of f.a)) → MatchBool m (rise p (point_of f.b) ≤ℤ pos 0) (pos 0 <ℤ rise p (point_of f.b)) → edge_turn f p ≡ pos 0 → l ≡ m
+no_crossing_held : (f : Seg) (p : Point) → (IsOnEdge f p → ⊥) → (l m : Bool)
+    → MatchBool l (rise p (point_of f.a) ≤ℤ pos 0) (pos 0 <ℤ rise p (point_of f.a))
+    → MatchBool m (rise p (point_of f.b) ≤ℤ pos 0) (pos 0 <ℤ rise p (point_of f.b)) → edge_turn f p ≡ pos 0 → l ≡ m
 unfolding edge_turn
 no_crossing_held f p off true true h k z = refl
 no_crossing_held f p off true false h k z = absurd (off (on_by_heights (point_of f.a) (point_of f.b) p z h k))
-no_crossing_held f p off false true h k z = absurd (off (segment_flip (on_by_heights (point_of f.b) (point_of f.a) p (turned_line f p z) k h)))
+no_crossing_held f p off false true h k z = absurd
+    (off (segment_flip (on_by_heights (point_of f.b) (point_of f.a) p (turned_line f p z) k h)))
 no_crossing_held f p off false false h k z = refl
 
 pub crosses_level : (l m : Bool) (t : ℤ) → l ≡ m → crosses_from l m t ≡ false
@@ -112,7 +119,8 @@ crosses_level l m t h = ap (λ z. crosses_from z m t) h ∙ level m
     level false = refl
 
 -- both ends' heights and the side stay as they are
-crosses_settled : (s : Bool) (f : Seg) (p : Point) (d : Direction) → pos 0 ≤ℤ d.y → HasSign s (edge_turn f p) → HoldsAlong (λ q. crosses q f ≡ crosses p f) p d
+crosses_settled : (s : Bool) (f : Seg) (p : Point) (d : Direction) → pos 0 ≤ℤ d.y → HasSign s (edge_turn f p)
+    → HoldsAlong (λ q. crosses q f ≡ crosses p f) p d
 unfolding edge_turn
 crosses_settled s f p d up sign =
     let a = low_stays_along p (point_of f.a) d up in
@@ -127,7 +135,8 @@ crosses_settled s f p d up sign =
     }
 
 -- both ends are at most as high, or both are higher
-crosses_nowhere : (f : Seg) (p : Point) (d : Direction) → pos 0 ≤ℤ d.y → is_low p (point_of f.a) ≡ is_low p (point_of f.b) → HoldsAlong (λ q. crosses q f ≡ crosses p f) p d
+crosses_nowhere : (f : Seg) (p : Point) (d : Direction) → pos 0 ≤ℤ d.y → is_low p (point_of f.a) ≡ is_low p (point_of f.b)
+    → HoldsAlong (λ q. crosses q f ≡ crosses p f) p d
 crosses_nowhere f p d up same =
     let a = low_stays_along p (point_of f.a) d up in
     let b = low_stays_along p (point_of f.b) d up in
@@ -142,7 +151,9 @@ crosses_nowhere f p d up same =
 crosses_stays : (f : Seg) (p : Point) (d : Direction) → pos 0 ≤ℤ d.y → (IsOnEdge f p → ⊥) → HoldsAlong (λ q. crosses q f ≡ crosses p f) p d
 crosses_stays f p d up off = by_sign (edge_turn f p)
     (λ h. crosses_settled false f p d up h)
-    (λ z. crosses_nowhere f p d up (no_crossing_held f p off (is_low p (point_of f.a)) (is_low p (point_of f.b)) (tells_low p (point_of f.a)) (tells_low p (point_of f.b)) z))
+    (λ z. crosses_nowhere f p d up
+    (no_crossing_held f p off (is_low p (point_of f.a)) (is_low p (point_of f.b)) (tells_low p (point_of f.a))
+    (tells_low p (point_of f.b)) z))
     (λ h. crosses_settled true f p d up h)
 
 -- ---- the edge that holds p
@@ -152,7 +163,8 @@ pub record IsRay (e : Seg) (p : Point) (s : Bool) (d : Direction) : Type 0 where
   pub side : HasSign s (slope e d)
   pub uncrossed : crossing_of (is_low p (point_of e.a)) (is_low p (point_of e.b)) s ≡ false
 
-crosses_own : (e : Seg) (p : Point) (s : Bool) (d : Direction) → IsRay e p s d → IsOnEdge e p → HoldsAlong (λ q. crosses q e ≡ crosses p e) p d
+crosses_own : (e : Seg) (p : Point) (s : Bool) (d : Direction) → IsRay e p s d → IsOnEdge e p
+    → HoldsAlong (λ q. crosses q e ≡ crosses p e) p d
 unfolding edge_turn
 crosses_own e p s d ray on =
     let a = low_stays_along p (point_of e.a) d ray.up in
@@ -160,14 +172,17 @@ crosses_own e p s d ray on =
     record {
       from = a.from + b.from;
       holds = λ n far q away.
-          crosses_by_sign (is_low q (point_of e.a)) (is_low q (point_of e.b)) s (edge_turn e q) (side_of s e (edge_turn_on e on) ray.side (omega (arith, far)) away)
+          crosses_by_sign (is_low q (point_of e.a)) (is_low q (point_of e.b)) s (edge_turn e q)
+          (side_of s e (edge_turn_on e on) ray.side (omega (arith, far)) away)
           ∙ (λ i. crossing_of (a.holds n (omega (arith, far)) q away i) (b.holds n (omega (arith, far)) q away i) s)
           ∙ ray.uncrossed
           ∙ sym (crosses_none (is_low p (point_of e.a)) (is_low p (point_of e.b)) (edge_turn e p) (edge_turn_on e on));
     }
 
 -- ---- the count along all edges
-odd_stays_along : (p : Point) (d : Direction) (edges : List Seg) → ((j : ℕ) (f : Seg) → IsAtPlace edges j f → HoldsAlong (λ q. crosses q f ≡ crosses p f) p d) → HoldsAlong (λ q. is_odd q edges ≡ is_odd p edges) p d
+odd_stays_along : (p : Point) (d : Direction) (edges : List Seg)
+    → ((j : ℕ) (f : Seg) → IsAtPlace edges j f → HoldsAlong (λ q. crosses q f ≡ crosses p f) p d)
+    → HoldsAlong (λ q. is_odd q edges ≡ is_odd p edges) p d
 odd_stays_along p d [] h = record { from = 0; holds = λ n far q away. refl }
 odd_stays_along p d (e ∷ edges) h =
     let first = h 0 e refl in
@@ -178,16 +193,20 @@ odd_stays_along p d (e ∷ edges) h =
     }
 
 -- the points on the ray's side are inside the ring exactly where the count at p is odd
-pub ray_counts : (ring : List Pt) → IsSimple (edges_of ring) → (i : ℕ) (e : Seg) → IsAtPlace (edges_of ring) i e → (p : Point) → IsStrictlyBetween (point_of e.a) (point_of e.b) p → (s : Bool) (d : Direction) → IsRay e p s d → (left : Bool) → IsBesideAt ring e p left → left ≡ by_hand s (is_odd p (edges_of ring))
+pub ray_counts : (ring : List Pt) → IsSimple (edges_of ring) → (i : ℕ) (e : Seg) → IsAtPlace (edges_of ring) i e → (p : Point)
+    → IsStrictlyBetween (point_of e.a) (point_of e.b) p → (s : Bool) (d : Direction) → IsRay e p s d → (left : Bool)
+    → IsBesideAt ring e p left → left ≡ by_hand s (is_odd p (edges_of ring))
 ray_counts ring simple i e is p between s d ray left h =
-    by_hand_one s left (by_hand s (is_odd p (edges_of ring))) (one_value {f = λ q. is_inside q ring} (h.along s d ray.side) counted ∙ sym (twice s (is_odd p (edges_of ring))))
+    by_hand_one s left (by_hand s (is_odd p (edges_of ring)))
+    (one_value {f = λ q. is_inside q ring} (h.along s d ray.side) counted ∙ sym (twice s (is_odd p (edges_of ring))))
   where
     one : IsAlone (edges_of ring) i e p
     one = between_is_alone simple i e is p between
 
     by_place : (j : ℕ) (f : Seg) → IsAtPlace (edges_of ring) j f → (i ≡ j) ⊎ (i ≡ j → ⊥) → HoldsAlong (λ q. crosses q f ≡ crosses p f) p d
     by_place j f is_f (inl same) =
-        subst (λ g. HoldsAlong (λ q. crosses q g ≡ crosses p g) p d) (some_same (sym is ∙ ap (slice_get (edges_of ring)) same ∙ is_f)) (crosses_own e p s d ray one.on)
+        subst (λ g. HoldsAlong (λ q. crosses q g ≡ crosses p g) p d) (some_same (sym is ∙ ap (slice_get (edges_of ring)) same ∙ is_f))
+        (crosses_own e p s d ray one.on)
     by_place j f is_f (inr differs) = crosses_stays f p d ray.up (one.alone j f differs is_f)
 
     odd : HoldsAlong (λ q. is_odd q (edges_of ring) ≡ is_odd p (edges_of ring)) p d
@@ -199,7 +218,8 @@ ray_counts ring simple i e is p between s d ray left h =
         record {
           from = j.from + odd.from;
           holds = λ n far q away.
-              ap (λ z. not z && is_odd q (edges_of ring)) (misses_start (j.free n n (omega (arith, far)) (omega (arith, far)) q q away away))
+              ap (λ z. not z && is_odd q (edges_of ring))
+              (misses_start (j.free n n (omega (arith, far)) (omega (arith, far)) q q away away))
               ∙ odd.holds n (omega (arith, far)) q away;
         }
 

@@ -58,13 +58,15 @@ inside_off p ring h = flip (is_on_edges p (edges_of ring)) (and_parts (not (is_o
 on_outside : (p : Point) (ring : List Pt) → is_on_edges p (edges_of ring) ≡ true → is_inside p ring ≡ false
 on_outside p ring h = ap (λ b. not b && is_odd p (edges_of ring)) h
 
-disc_location : (p : Point) (ring : List Pt) → location (disc_of ring) p ≡ location_by (is_on_edges p (edges_of ring)) (is_inside p ring) false
+disc_location : (p : Point) (ring : List Pt) → location (disc_of ring) p ≡ location_by (is_on_edges p (edges_of ring))
+    (is_inside p ring) false
 disc_location p ring = ap (λ es. location_by (is_on_edges p es) (is_inside p ring) false) (disc_edges ring)
 
 to_interior : (p : Point) (ring : List Pt) → is_inside p ring ≡ true → location (disc_of ring) p ≡ Interior
 to_interior p ring h = disc_location p ring ∙ (λ i. location_by (inside_off p ring h i) (h i) false)
 
-to_exterior : (p : Point) (ring : List Pt) → is_on_edges p (edges_of ring) ≡ false → is_inside p ring ≡ false → location (disc_of ring) p ≡ Exterior
+to_exterior : (p : Point) (ring : List Pt) → is_on_edges p (edges_of ring) ≡ false → is_inside p ring ≡ false
+    → location (disc_of ring) p ≡ Exterior
 to_exterior p ring off h = disc_location p ring ∙ (λ i. location_by (off i) (h i) false)
 
 from_interior : (p : Point) (ring : List Pt) → location (disc_of ring) p ≡ Interior → is_inside p ring ≡ true
@@ -95,7 +97,8 @@ swapped h = record {
   share = record { a = h.share.a; b = h.share.b; apart = h.share.apart; held = λ p on. let both = h.share.held p on in (both.1, both.0) };
 }
 
-discs_unshared : (one other : List Pt) → ¬ EdgesShareSegment (edges_of one) (edges_of other) → ¬ AreasShareSegment (disc_of one) (disc_of other)
+discs_unshared : (one other : List Pt) → ¬ EdgesShareSegment (edges_of one) (edges_of other)
+    → ¬ AreasShareSegment (disc_of one) (disc_of other)
 discs_unshared one other unshared h = unshared (subst₂ EdgesShareSegment (disc_edges one) (disc_edges other) h)
 
 of_ring : (ring : List Pt) {area : Area} {part : Loc} → Enters (edges_in (disc_of ring)) area part → Enters (edges_of ring) area part
@@ -108,40 +111,52 @@ module _ (beside : LawBeside) (reaches : LawReach) where
   pub hole_outside : LawHoleOutside
   hole_outside shell hole s h unshared = (λ leaves. by_edge leaves (is_on_edges leaves.p (edges_of shell)) refl, back)
     where
-      by_reach : Enters (edges_in (disc_of hole)) (disc_of shell) Exterior ⊎ Enters (edges_in (disc_of shell)) (disc_of hole) Interior → Enters (edges_of hole) (disc_of shell) Exterior ⊎ Enters (edges_of shell) (disc_of hole) Interior
+      by_reach : Enters (edges_in (disc_of hole)) (disc_of shell) Exterior ⊎ Enters (edges_in (disc_of shell)) (disc_of hole) Interior
+          → Enters (edges_of hole) (disc_of shell) Exterior ⊎ Enters (edges_of shell) (disc_of hole) Interior
       by_reach (inl e) = inl (of_ring hole e)
       by_reach (inr e) = inr (of_ring shell e)
 
-      by_edge : (leaves : LeavesShell shell hole) (b : Bool) → is_on_edges leaves.p (edges_of shell) ≡ b → Enters (edges_of hole) (disc_of shell) Exterior ⊎ Enters (edges_of shell) (disc_of hole) Interior
+      by_edge : (leaves : LeavesShell shell hole) (b : Bool) → is_on_edges leaves.p (edges_of shell) ≡ b
+          → Enters (edges_of hole) (disc_of shell) Exterior ⊎ Enters (edges_of shell) (disc_of hole) Interior
       by_edge leaves true on = inr (record { x = leaves.p; on = on; lies = to_interior leaves.p hole leaves.in_hole })
       by_edge leaves false off =
           by_reach (reaches (disc_of hole) (disc_of shell) (disc_shaped hole h.shaped) (disc_shaped shell s.shaped)
-          (discs_unshared hole shell (λ k. unshared (swapped k))) leaves.p (to_interior leaves.p hole leaves.in_hole) Exterior exterior_apart (to_exterior leaves.p shell off leaves.off_shell))
+          (discs_unshared hole shell (λ k. unshared (swapped k))) leaves.p
+          (to_interior leaves.p hole leaves.in_hole) Exterior exterior_apart (to_exterior leaves.p shell off leaves.off_shell))
 
       back : Enters (edges_of hole) (disc_of shell) Exterior ⊎ Enters (edges_of shell) (disc_of hole) Interior → LeavesShell shell hole
       back (inl e) =
-          let p = beside (disc_of hole) (disc_of shell) (disc_clean hole h) (disc_shaped shell s.shaped) Exterior exterior_apart (of_disc hole e) in
+          let p = beside (disc_of hole) (disc_of shell) (disc_clean hole h) (disc_shaped shell s.shaped) Exterior exterior_apart
+          (of_disc hole e) in
           record { p = p.0; in_hole = from_interior p.0 hole p.1; off_shell = from_exterior p.0 shell p.2 }
       back (inr e) = record { p = e.x; in_hole = from_interior e.x hole e.lies; off_shell = on_outside e.x shell e.on }
 
   pub holes_overlap : LawHolesOverlap
-  holes_overlap one other s h unshared = (λ both. by_reach (reaches (disc_of one) (disc_of other) (disc_shaped one s.shaped) (disc_shaped other h.shaped)
-      (discs_unshared one other unshared) both.p (to_interior both.p one both.in_one) Interior interior_apart (to_interior both.p other both.in_other)), back)
+  holes_overlap one other s h unshared = (
+    λ both. by_reach (reaches (disc_of one) (disc_of other) (disc_shaped one s.shaped) (disc_shaped other h.shaped)
+        (discs_unshared one other unshared) both.p (to_interior both.p one both.in_one) Interior interior_apart
+        (to_interior both.p other both.in_other)),
+    back,
+  )
     where
-      by_reach : Enters (edges_in (disc_of one)) (disc_of other) Interior ⊎ Enters (edges_in (disc_of other)) (disc_of one) Interior → Enters (edges_of one) (disc_of other) Interior ⊎ Enters (edges_of other) (disc_of one) Interior
+      by_reach : Enters (edges_in (disc_of one)) (disc_of other) Interior ⊎ Enters (edges_in (disc_of other)) (disc_of one) Interior
+          → Enters (edges_of one) (disc_of other) Interior ⊎ Enters (edges_of other) (disc_of one) Interior
       by_reach (inl e) = inl (of_ring one e)
       by_reach (inr e) = inr (of_ring other e)
 
       back : Enters (edges_of one) (disc_of other) Interior ⊎ Enters (edges_of other) (disc_of one) Interior → AreBothInside one other
       back (inl e) =
-          let p = beside (disc_of one) (disc_of other) (disc_clean one s) (disc_shaped other h.shaped) Interior interior_apart (of_disc one e) in
+          let p = beside (disc_of one) (disc_of other) (disc_clean one s) (disc_shaped other h.shaped) Interior interior_apart
+          (of_disc one e) in
           record { p = p.0; in_one = from_interior p.0 one p.1; in_other = from_interior p.0 other p.2 }
       back (inr e) =
-          let p = beside (disc_of other) (disc_of one) (disc_clean other h) (disc_shaped one s.shaped) Interior interior_apart (of_disc other e) in
+          let p = beside (disc_of other) (disc_of one) (disc_clean other h) (disc_shaped one s.shaped) Interior interior_apart
+          (of_disc other e) in
           record { p = p.0; in_one = from_interior p.0 one p.2; in_other = from_interior p.0 other p.1 }
 
   pub elements_overlap : LawElementsOverlap
-  elements_overlap one other s h unshared = (λ both. reaches one other s.shaped h.shaped unshared both.p both.in_area Interior interior_apart both.in_other, back)
+  elements_overlap one other s h unshared =
+      (λ both. reaches one other s.shaped h.shaped unshared both.p both.in_area Interior interior_apart both.in_other, back)
     where
       back : Enters (edges_in one) other Interior ⊎ Enters (edges_in other) one Interior → AreasOverlap one other
       back (inl e) =

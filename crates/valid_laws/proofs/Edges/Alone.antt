@@ -42,10 +42,13 @@ between_from {a} {b} {p} apart on not_a not_b = record {
   t = on.t;
   mix = on.mix;
   some_first = by_sign on.s (λ h. absurd (<ℤ_irrefl (<ℤ-≤ℤ_trans h on.mix.first)))
-      (λ z. absurd (not_b (same_sym (same_from_steps p b (none on.mix.times on.s (shift p b) (shift a b) on.mix.some z (mix_shift_end on.mix)) (none on.mix.times on.s (rise p b) (rise a b) on.mix.some z (mix_rise_end on.mix))))))
+      (λ z. absurd (not_b (same_sym
+      (same_from_steps p b (none on.mix.times on.s (shift p b) (shift a b) on.mix.some z (mix_shift_end on.mix))
+      (none on.mix.times on.s (rise p b) (rise a b) on.mix.some z (mix_rise_end on.mix))))))
       (λ h. h);
   some_second = by_sign on.t (λ h. absurd (<ℤ_irrefl (<ℤ-≤ℤ_trans h on.mix.second)))
-      (λ z. absurd (not_a (same_from_steps a p (none on.mix.times on.t (shift a p) (shift a b) on.mix.some z (mix_shift_start on.mix)) (none on.mix.times on.t (rise a p) (rise a b) on.mix.some z (mix_rise_start on.mix)))))
+      (λ z. absurd (not_a (same_from_steps a p (none on.mix.times on.t (shift a p) (shift a b) on.mix.some z (mix_shift_start on.mix))
+      (none on.mix.times on.t (rise a p) (rise a b) on.mix.some z (mix_rise_start on.mix)))))
       (λ h. h);
   apart = apart;
 }
@@ -69,7 +72,8 @@ not_at v d w = go (is_same_point v (point_of w)) refl
     r = room v (dot ∷ [])
 
     on_dot : (p : Point) → IsSamePoint (point_of w) p → is_on_edge p dot ≡ true
-    on_dot p one = (Decides-is_on_segment (point_of w) (point_of w) p).1 (segment_same (same_refl (point_of w)) (same_refl (point_of w)) one (start_on_segment (point_of w) (point_of w)))
+    on_dot p one = (Decides-is_on_segment (point_of w) (point_of w) p).1
+        (segment_same (same_refl (point_of w)) (same_refl (point_of w)) one (start_on_segment (point_of w) (point_of w)))
 
     off_dot : is_same_point v (point_of w) ≡ false → (b : Bool) → is_on_edge v dot ≡ b → is_on_edge v dot ≡ false
     off_dot h false e = e
@@ -85,18 +89,28 @@ not_at v d w = go (is_same_point v (point_of w)) refl
     }
     go false h = record {
       from = far_for d r.n;
-      holds = λ n far p away one. true≢false (sym (on_dot p one) ∙ (r.free r.n (omega arith) p (away_near r.n far away)).0 (off_dot h (is_on_edge v dot) refl));
+      holds = λ n far p away one. true≢false
+          (sym (on_dot p one) ∙ (r.free r.n (omega arith) p (away_near r.n far away)).0 (off_dot h (is_on_edge v dot) refl));
     }
 
 along_edge : (v : Point) (d : Direction) (e : Seg) → RunsAlong v d e → HoldsAlong (λ p. IsOnEdge e p) v d
 along_edge v d e runs = go runs.end
   where
     go : IsInCone v d d (point_of e.a) ⊎ IsInCone v d d (point_of e.b) → HoldsAlong (λ p. IsOnEdge e p) v d
-    go (inl c) = record { from = size_of ((c.times *ℤ v.w) *ℤ (point_of e.a).w); holds = λ n far p away. segment_within (on_true runs.on) (start_on_segment (point_of e.a) (point_of e.b)) (toward_on v d (point_of e.a) c n p far away) }
-    go (inr c) = record { from = size_of ((c.times *ℤ v.w) *ℤ (point_of e.b).w); holds = λ n far p away. segment_within (on_true runs.on) (end_on_segment (point_of e.a) (point_of e.b)) (toward_on v d (point_of e.b) c n p far away) }
+    go (inl c) = record {
+      from = size_of ((c.times *ℤ v.w) *ℤ (point_of e.a).w);
+      holds = λ n far p away.
+          segment_within (on_true runs.on) (start_on_segment (point_of e.a) (point_of e.b)) (toward_on v d (point_of e.a) c n p far away);
+    }
+    go (inr c) = record {
+      from = size_of ((c.times *ℤ v.w) *ℤ (point_of e.b).w);
+      holds = λ n far p away.
+          segment_within (on_true runs.on) (end_on_segment (point_of e.a) (point_of e.b)) (toward_on v d (point_of e.b) c n p far away);
+    }
 
 -- two edges of a clean area that share a segment, of which a point is strictly within the first, are one
-one_edge : (area : Area) → IsClean area → (e g : Seg) → HasRing (rings_of area) e → HasRing (rings_of area) g → ShareSegment e g → (p : Point) → IsOnEdge e p → IsOnEdge g p → ¬ IsSamePoint (point_of e.a) p → ¬ IsSamePoint (point_of e.b) p → g ≡ e
+one_edge : (area : Area) → IsClean area → (e g : Seg) → HasRing (rings_of area) e → HasRing (rings_of area) g → ShareSegment e g
+    → (p : Point) → IsOnEdge e p → IsOnEdge g p → ¬ IsSamePoint (point_of e.a) p → ¬ IsSamePoint (point_of e.b) p → g ≡ e
 one_edge area clean e g x y share p on_e on_g not_a not_b = by_ring (cases_order x.k y.k)
   where
     back : ShareSegment g e
@@ -107,7 +121,8 @@ one_edge area clean e g x y share p on_e on_g not_a not_b = by_ring (cases_order
     shaped_at (suc k) ring is = hole_shaped area clean.shaped k ring is
 
     simple : IsSimple (edges_of x.ring)
-    simple = ring_is_simple x.ring (shaped_at x.k x.ring x.ring_is).closed (all_at (λ w. ¬ CrossesItself w) (rings_of area) x.k x.ring clean.simple x.ring_is)
+    simple = ring_is_simple x.ring (shaped_at x.k x.ring x.ring_is).closed
+        (all_at (λ w. ¬ CrossesItself w) (rings_of area) x.k x.ring clean.simple x.ring_is)
 
     by_place : IsAtPlace (edges_of x.ring) y.j g → (x.j ≡ y.j) ⊎ (x.j ≡ y.j → ⊥) → g ≡ e
     by_place is (inl one) = some_same (sym is ∙ ap (slice_get (edges_of x.ring)) (sym one) ∙ x.e_is)
@@ -141,7 +156,8 @@ one_edge area clean e g x y share p on_e on_g not_a not_b = by_ring (cases_order
 pub alone : LawAlone
 alone area clean i e is v d runs = record {
   from = ((along.from + off_a.from) + off_b.from) + far_for d r.n;
-  holds = λ n far p away. holds_at n far p away (along.holds n (omega (arith, far)) p away) (off_a.holds n (omega (arith, far)) p away) (off_b.holds n (omega (arith, far)) p away);
+  holds = λ n far p away. holds_at n far p away (along.holds n (omega (arith, far)) p away) (off_a.holds n (omega (arith, far)) p away)
+      (off_b.holds n (omega (arith, far)) p away);
 }
   where
     along : HoldsAlong (λ p. IsOnEdge e p) v d
@@ -156,15 +172,19 @@ alone area clean i e is v d runs = record {
     r : HasRoom v (edges_in area)
     r = room v (edges_in area)
 
-    through : (p : Point) → HoldBoth v p (edges_in area) → (j : ℕ) (g : Seg) → IsAtPlace (edges_in area) j g → IsOnEdge g p → (b : Bool) → is_on_edge v g ≡ b → is_on_edge v g ≡ true
+    through : (p : Point) → HoldBoth v p (edges_in area) → (j : ℕ) (g : Seg) → IsAtPlace (edges_in area) j g → IsOnEdge g p → (b : Bool)
+        → is_on_edge v g ≡ b → is_on_edge v g ≡ true
     through p held j g is_g on true h = h
-    through p held j g is_g on false h = absurd (true≢false (sym ((Decides-is_on_segment (point_of g.a) (point_of g.b) p).1 on) ∙ held_at v p (edges_in area) held j g is_g h))
+    through p held j g is_g on false h = absurd
+        (true≢false (sym ((Decides-is_on_segment (point_of g.a) (point_of g.b) p).1 on) ∙ held_at v p (edges_in area) held j g is_g h))
 
-    holds_at : (n : ℕ) → ((along.from + off_a.from) + off_b.from) + far_for d r.n < n → (p : Point) → IsAway v d n p → IsOnEdge e p → ¬ IsSamePoint (point_of e.a) p → ¬ IsSamePoint (point_of e.b) p → IsOnEdgeAlone area e p
+    holds_at : (n : ℕ) → ((along.from + off_a.from) + off_b.from) + far_for d r.n < n → (p : Point) → IsAway v d n p → IsOnEdge e p
+        → ¬ IsSamePoint (point_of e.a) p → ¬ IsSamePoint (point_of e.b) p → IsOnEdgeAlone area e p
     holds_at n far p away on_e not_a not_b = record {
       between = between_from (moving area i e is) on_e not_a not_b;
       alone = λ j g is_g on_g.
-          let v_g = on_true (through p (r.free r.n (omega (arith)) p (away_near r.n (omega (arith, far)) away)) j g is_g on_g (is_on_edge v g) refl) in
+          let v_g = on_true (through p (r.free r.n (omega (arith)) p (away_near r.n (omega (arith, far)) away)) j g is_g on_g
+          (is_on_edge v g) refl) in
           one_edge area clean e g (ring_of (rings_of area) i e is) (ring_of (rings_of area) j g is_g)
           (record {
             a = v;

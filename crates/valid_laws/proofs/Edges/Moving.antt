@@ -40,4 +40,5 @@ move_at (g ∷ edges) all zero e is = subst (λ h. is_same_position h.a h.b ≡ 
 move_at (g ∷ edges) all (suc i) e is = move_at edges all.1 i e is
 
 pub moving : LawMoving
-moving area i e is one = true≢false (sym (same_positions e.a e.b one) ∙ move_at (edges_of_rings (rings_of area)) (move_rings (rings_of area)) i e is)
+moving area i e is one = true≢false
+    (sym (same_positions e.a e.b one) ∙ move_at (edges_of_rings (rings_of area)) (move_rings (rings_of area)) i e is)

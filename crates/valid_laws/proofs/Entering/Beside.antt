@@ -57,13 +57,15 @@ none_held v m (e ∷ edges) off both =
     let tests = or_parts (is_on_edge v e) (is_on_edges v edges) off in
     or_from (is_on_edge m e) (is_on_edges m edges) (both.0 tests.0) (none_held v m edges tests.1 both.1)
 
-settled_area : (area : Area) → IsAreaShaped area → (v : Point) → is_on_edges v (edges_in area) ≡ false → (d : Direction) → HoldsAlong (λ q. location area q ≡ location area v) v d
+settled_area : (area : Area) → IsAreaShaped area → (v : Point) → is_on_edges v (edges_in area) ≡ false → (d : Direction)
+    → HoldsAlong (λ q. location area q ≡ location area v) v d
 settled_area area shaped v off d =
     let r = room v (edges_in area) in
     record {
       from = far_for d r.n;
       holds = λ n far q away. location_stays q v area shaped (record {
-        off = λ m on. none_held v m (edges_in area) off (r.free r.n (omega arith) m (near_mix (away_near r.n far away) (near_self v r.n) on));
+        off = λ m on. none_held v m (edges_in area) off
+            (r.free r.n (omega arith) m (near_mix (away_near r.n far away) (near_self v r.n) on));
       });
     }
 
@@ -78,7 +80,8 @@ record HasPoint (P : Point → Type 0) : Type 0 where
   is : P q
 
 some_along : {P : Point → Type 0} {v : Point} {d : Direction} → HoldsAlong P v d → HasPoint P
-some_along {P} {v} {d} h = record { q = away_point v d h.from; is = h.holds (suc h.from) (omega arith) (away_point v d h.from) (away_point_is v d h.from) }
+some_along {P} {v} {d} h = record
+    { q = away_point v d h.from; is = h.holds (suc h.from) (omega arith) (away_point v d h.from) (away_point_is v d h.from) }
 
 -- ---- the ring of an edge
 pub record HasRing (rings : List (List Pt)) (e : Seg) : Type 0 where
@@ -97,7 +100,8 @@ pub ring_of : (rings : List (List Pt)) (i : ℕ) (e : Seg) → IsAtPlace (edges_
 ring_of [] i e is = cc
 ring_of (ring ∷ rings) i e is = go (λ j is_j. ring_of rings j e is_j) (in_parts (edges_of ring) (edges_of_rings rings) i e is)
   where
-    go : ((j : ℕ) → IsAtPlace (edges_of_rings rings) j e → HasRing rings e) → IsAtPlace (edges_of ring) i e ⊎ ((j : ℕ) × IsAtPlace (edges_of_rings rings) j e) → HasRing (ring ∷ rings) e
+    go : ((j : ℕ) → IsAtPlace (edges_of_rings rings) j e → HasRing rings e) → IsAtPlace (edges_of ring) i e
+        ⊎ ((j : ℕ) × IsAtPlace (edges_of_rings rings) j e) → HasRing (ring ∷ rings) e
     go more (inl here) = record { k = 0; ring = ring; ring_is = refl; j = i; e_is = here }
     go more (inr (j, there)) = let h = more j there in record { k = suc h.k; ring = h.ring; ring_is = h.ring_is; j = h.j; e_is = h.e_is }
 
@@ -115,10 +119,16 @@ hand_at area clean i e is = by_ring (ring_of (rings_of area) i e is)
     by_place : (k : ℕ) (ring : List Pt) (j : ℕ) → IsAtPlace (rings_of area) k ring → IsAtPlace (edges_of ring) j e → HasHandOf area e
     by_place zero ring j is_ring is_e =
         let shell : area.shell ≡ ring = some_same is_ring in
-        let hand = some_inside_hand area.shell clean.shaped.shell.closed (all_at (λ w. ¬ CrossesItself w) (rings_of area) 0 area.shell clean.simple refl) in
-        record { side = hand.0; is = shell_hand area (rings_clean clean) hand.0 hand.1 j e (subst (λ w. IsAtPlace (edges_of w) j e) (sym shell) is_e) }
+        let hand = some_inside_hand area.shell clean.shaped.shell.closed
+        (all_at (λ w. ¬ CrossesItself w) (rings_of area) 0 area.shell clean.simple refl) in
+        record {
+          side = hand.0;
+          is = shell_hand area (rings_clean clean) hand.0 hand.1 j e
+              (subst (λ w. IsAtPlace (edges_of w) j e) (sym shell) is_e);
+        }
     by_place (suc k) ring j is_ring is_e =
-        let hand = some_inside_hand ring (hole_shaped area clean.shaped k ring is_ring).closed (all_at (λ w. ¬ CrossesItself w) (rings_of area) (suc k) ring clean.simple is_ring) in
+        let hand = some_inside_hand ring (hole_shaped area clean.shaped k ring is_ring).closed
+        (all_at (λ w. ¬ CrossesItself w) (rings_of area) (suc k) ring clean.simple is_ring) in
         record { side = other_hand hand.0; is = hole_hand area (rings_clean clean) k ring is_ring hand.0 hand.1 j e is_e }
 
     by_ring : HasRing (rings_of area) e → HasHandOf area e
@@ -152,7 +162,8 @@ way_leads q a apart = record {
 }
   where
     once : (z : ℤ) → pos 1 *ℤ z ≡ (pos 1 *ℤ z) +ℤ (pos 0 *ℤ z)
-    once z = same_from (num (pos 1) ⊗ var 0) (num (pos 1) ⊗ var 0 ⊕ num (pos 0) ⊗ var 0) (z ∷ []) (same (num (pos 0)) (num (pos 0)) refl) refl
+    once z = same_from (num (pos 1) ⊗ var 0) (num (pos 1) ⊗ var 0 ⊕ num (pos 0) ⊗ var 0) (z ∷ [])
+        (same (num (pos 0)) (num (pos 0)) refl) refl
 
 record HasRun (v : Point) (e : Seg) : Type 0 where
   d : Direction
@@ -163,7 +174,8 @@ some_run v e on apart = go (is_same_point v (point_of e.a)) refl
   where
     go : (b : Bool) → is_same_point v (point_of e.a) ≡ b → HasRun v e
     go true h =
-        let other : ¬ IsSamePoint v (point_of e.b) = λ one. apart (same_trans (same_sym ((Decides-is_same_point v (point_of e.a)).0 h)) one) in
+        let other : ¬ IsSamePoint v (point_of e.b) = λ one. apart
+        (same_trans (same_sym ((Decides-is_same_point v (point_of e.a)).0 h)) one) in
         record { d = way_to v (point_of e.b) other; runs = record { on = on; end = inr (way_leads v (point_of e.b) other) } }
     go false h =
         let other : ¬ IsSamePoint v (point_of e.a) = λ one. true≢false (sym ((Decides-is_same_point v (point_of e.a)).1 one) ∙ h) in
@@ -179,7 +191,8 @@ beside moving alone one other clean shaped part inner enters = by_place (some_pl
     off : (x : Point) → location other x ≡ part → is_on_edges x (edges_in other) ≡ false
     off x lies = false_from_ne_true (is_on_edges x (edges_in other)) (λ on. inner (sym lies ∙ boundary x on))
 
-    by_hand : (e : Seg) → HasHandOf one e → ¬ IsSamePoint (point_of e.a) (point_of e.b) → (v : Point) → IsOnEdgeAlone one e v → location other v ≡ part → (p : Point) × (location one p ≡ Interior) × (location other p ≡ part)
+    by_hand : (e : Seg) → HasHandOf one e → ¬ IsSamePoint (point_of e.a) (point_of e.b) → (v : Point) → IsOnEdgeAlone one e v
+        → location other v ≡ part → (p : Point) × (location one p ≡ Interior) × (location other p ≡ part)
     by_hand e h apart v on_alone lies =
         let way = some_way_to h.side h.is.sided e apart in
         let found = some_along (both_along (h.is.inside v on_alone way.d way.to) (settled_area other shaped v (off v lies) way.d)) in
@@ -188,5 +201,7 @@ beside moving alone one other clean shaped part inner enters = by_place (some_pl
     by_place : Placed (edges_in one) enters.x → (p : Point) × (location one p ≡ Interior) × (location other p ≡ part)
     by_place (i, e, is, on) =
         let run = some_run enters.x e on (moving one i e is) in
-        let near = some_along (both_along (alone one clean i e is enters.x run.d run.runs) (settled_area other shaped enters.x (off enters.x enters.lies) run.d)) in
+        let near = some_along
+        (both_along (alone one clean i e is enters.x run.d run.runs)
+        (settled_area other shaped enters.x (off enters.x enters.lies) run.d)) in
         by_hand e (hand_at one clean i e is) (moving one i e is) near.q near.is.0 (near.is.1 ∙ enters.lies)

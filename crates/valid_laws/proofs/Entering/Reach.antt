@@ -43,7 +43,8 @@ pub in_left : (xs ys : List Seg) (p : Point) → is_on_edges p xs ≡ true → i
 in_left [] ys p on = cc
 in_left (e ∷ xs) ys p on = go (in_left xs ys p) (is_on_edge p e) refl
   where
-    go : (is_on_edges p xs ≡ true → is_on_edges p (xs ++ ys) ≡ true) → (b : Bool) → is_on_edge p e ≡ b → is_on_edges p (e ∷ (xs ++ ys)) ≡ true
+    go : (is_on_edges p xs ≡ true → is_on_edges p (xs ++ ys) ≡ true) → (b : Bool) → is_on_edge p e ≡ b
+        → is_on_edges p (e ∷ (xs ++ ys)) ≡ true
     go more true h = or_left (is_on_edge p e) (is_on_edges p (xs ++ ys)) h
     go more false h = or_right (is_on_edge p e) (is_on_edges p (xs ++ ys)) (more (ap (λ b. b || is_on_edges p xs) (sym h) ∙ on))
 
@@ -58,7 +59,8 @@ off_lists (e ∷ xs) ys p off others =
     or_from (is_on_edge p e) (is_on_edges p (xs ++ ys)) parts.0 (off_lists xs ys p parts.1 others)
 
 -- ---- up to the first meeting the location in an area stays
-module _ (area : Area) (shaped : IsAreaShaped area) (all : List Seg) (among : (m : Point) → is_on_edges m (edges_in area) ≡ true → is_on_edges m all ≡ true) where
+module _ (area : Area) (shaped : IsAreaShaped area) (all : List Seg)
+    (among : (m : Point) → is_on_edges m (edges_in area) ≡ true → is_on_edges m all ≡ true) where
   stays : {p t y : Point} → IsFirstMeeting all p t y → is_on_edges y (edges_in area) ≡ false → location area y ≡ location area p
   stays {p} {t} {y} meeting off = location_stays y p area shaped (record {
     off = λ m within. false_from_ne_true (is_on_edges m (edges_in area))
@@ -73,16 +75,20 @@ module _ (area : Area) (shaped : IsAreaShaped area) (all : List Seg) (among : (m
         location_stays r p area shaped (record { off = λ m within. free n r far away on m within });
   }
     where
-      at_start : (n : ℕ) (r : Point) → size_of ((c.times *ℤ q.w) *ℤ p.w) < n → IsAway q d n r → (m : Point) → IsOnSegment r p m → IsSamePoint m q → ⊥
+      at_start : (n : ℕ) (r : Point) → size_of ((c.times *ℤ q.w) *ℤ p.w) < n → IsAway q d n r → (m : Point) → IsOnSegment r p m
+          → IsSamePoint m q → ⊥
       at_start n r far away m within same_q =
           direction_pointed q d (cone_mix (away_cone (omega (arith, far)) away) c (segment_same (same_refl r) (same_refl p) same_q within))
 
-      free : (n : ℕ) (r : Point) → size_of ((c.times *ℤ q.w) *ℤ p.w) < n → IsAway q d n r → IsOnSegment q p r → (m : Point) → IsOnSegment r p m → is_on_edges m (edges_in area) ≡ false
+      free : (n : ℕ) (r : Point) → size_of ((c.times *ℤ q.w) *ℤ p.w) < n → IsAway q d n r → IsOnSegment q p r → (m : Point)
+          → IsOnSegment r p m → is_on_edges m (edges_in area) ≡ false
       free n r far away on m within = false_from_ne_true (is_on_edges m (edges_in area))
-          (λ held. at_start n r far away m within (meeting.first m (segment_flip (segment_within on (end_on_segment q p) within)) (among m held)))
+          (λ held. at_start n r far away m within
+          (meeting.first m (segment_flip (segment_within on (end_on_segment q p) within)) (among m held)))
 
 -- ---- two areas without a common segment of their edges
-module _ (first : LawFirstMeeting) (one other : Area) (shaped_one : IsAreaShaped one) (shaped_other : IsAreaShaped other) (unshared : ¬ AreasShareSegment one other) (part : Loc) (inner : part ≢ Boundary) where
+module _ (first : LawFirstMeeting) (one other : Area) (shaped_one : IsAreaShaped one) (shaped_other : IsAreaShaped other)
+    (unshared : ¬ AreasShareSegment one other) (part : Loc) (inner : part ≢ Boundary) where
   abbrev all : List Seg
   all = edges_in one ++ edges_in other
 
@@ -108,7 +114,8 @@ module _ (first : LawFirstMeeting) (one other : Area) (shaped_one : IsAreaShaped
     of_one : is_on_edges y (edges_in one) ≡ true
     of_other : is_on_edges y (edges_in other) ≡ true
 
-  settle : {p t y : Point} → IsThere p → IsFirstMeeting all p t y → (b c : Bool) → is_on_edges y (edges_in one) ≡ b → is_on_edges y (edges_in other) ≡ c → IsBoth y ⊎ Found
+  settle : {p t y : Point} → IsThere p → IsFirstMeeting all p t y → (b c : Bool) → is_on_edges y (edges_in one) ≡ b
+      → is_on_edges y (edges_in other) ≡ c → IsBoth y ⊎ Found
   settle {p} {t} {y} there meeting true true on_one on_other = inl (record { of_one = on_one; of_other = on_other })
   settle {p} {t} {y} there meeting true false on off = inr (inl (record {
     x = y;
@@ -124,11 +131,13 @@ module _ (first : LawFirstMeeting) (one other : Area) (shaped_one : IsAreaShaped
       absurd (true≢false (sym meeting.on ∙ off_lists (edges_in one) (edges_in other) y off_one off_other))
 
   -- near q, two edges of the two areas that have another common point share a segment
-  none_near : (q y : Point) (r : HasRoom q (edges_in one)) (k : HasRoom q (edges_in other)) → HoldBoth q y (edges_in one) → HoldBoth q y (edges_in other) → ¬ IsSamePoint q y → ¬ IsBoth y
+  none_near : (q y : Point) (r : HasRoom q (edges_in one)) (k : HasRoom q (edges_in other)) → HoldBoth q y (edges_in one)
+      → HoldBoth q y (edges_in other) → ¬ IsSamePoint q y → ¬ IsBoth y
   none_near q y r k held held_other apart both =
       by_places (some_place (edges_in one) y both.of_one) (some_place (edges_in other) y both.of_other)
     where
-      through : (edges : List Seg) → HoldBoth q y edges → (i : ℕ) (g : Seg) → IsAtPlace edges i g → is_on_edge y g ≡ true → (b : Bool) → is_on_edge q g ≡ b → is_on_edge q g ≡ true
+      through : (edges : List Seg) → HoldBoth q y edges → (i : ℕ) (g : Seg) → IsAtPlace edges i g → is_on_edge y g ≡ true → (b : Bool)
+          → is_on_edge q g ≡ b → is_on_edge q g ≡ true
       through edges h i g is on true e = e
       through edges h i g is on false e = absurd (true≢false (sym on ∙ held_at q y edges h i g is e))
 
@@ -143,7 +152,13 @@ module _ (first : LawFirstMeeting) (one other : Area) (shaped_one : IsAreaShaped
             f = h;
             e_is = is_g;
             f_is = is_h;
-            share = record { a = q; b = y; apart = apart; held = λ m on. (segment_within q_g (on_true on_g) on, segment_within q_h (on_true on_h) on) };
+            share = record {
+              a = q;
+              b = y;
+              apart = apart;
+              held = λ m on.
+                  (segment_within q_g (on_true on_g) on, segment_within q_h (on_true on_h) on);
+            };
           })
 
   -- an edge that runs from q along r, another way than straight on
@@ -192,10 +207,12 @@ module _ (first : LawFirstMeeting) (one other : Area) (shaped_one : IsAreaShaped
 
       by_both : (y : Point) → IsFirstMeeting all p' x y → IsBoth y ⊎ Found → Found
       by_both y again (inr found) = found
-      by_both y again (inl both) = absurd (none_near q y room_one room_other (room_one.free k (omega (arith)) y near) (room_other.free k (omega (arith)) y near) apart both)
+      by_both y again (inl both) = absurd
+          (none_near q y room_one room_other (room_one.free k (omega (arith)) y near) (room_other.free k (omega (arith)) y near) apart both)
         where
           near : IsNear q k y
-          near = near_mix (away_near k (omega (arith)) (away_point_is q d n)) (away_near k (omega (arith)) (away_point_is q turned.r n)) again.on_way
+          near = near_mix (away_near k (omega (arith)) (away_point_is q d n))
+              (away_near k (omega (arith)) (away_point_is q turned.r n)) again.on_way
 
           apart : ¬ IsSamePoint q y
           apart same =
@@ -204,7 +221,8 @@ module _ (first : LawFirstMeeting) (one other : Area) (shaped_one : IsAreaShaped
 
       by_meeting : ((m : Point) → IsOnSegment p' x m → is_on_edges m all ≡ false) ⊎ ((y : Point) × IsFirstMeeting all p' x y) → Found
       by_meeting (inl free) = absurd (true≢false (sym on_x ∙ free x (end_on_segment p' x)))
-      by_meeting (inr (y, again)) = by_both y again (settle there' again (is_on_edges y (edges_in one)) (is_on_edges y (edges_in other)) refl refl)
+      by_meeting (inr (y, again)) = by_both y again
+          (settle there' again (is_on_edges y (edges_in one)) (is_on_edges y (edges_in other)) refl refl)
 
   -- ---- some edge runs from a common point another way than straight on
   back_of : Direction → Direction
@@ -239,28 +257,33 @@ module _ (first : LawFirstMeeting) (one other : Area) (shaped_one : IsAreaShaped
 
   back_cross : (q : Point) (d : Direction) (a : Point) → cross_of q d a ≡ pos 0 → cross_of q (back_of d) a ≡ pos 0
   unfolding cross_of back_of
-  back_cross q d a h = same_from (minus (var 0) ⊗ var 3 ⊖ minus (var 1) ⊗ var 2) (num (pos 0)) (d.x ∷ d.y ∷ shift q a ∷ rise q a ∷ []) (scaled (num (pos 0) ⊖ num (pos 1)) (same (var 0 ⊗ var 3 ⊖ var 1 ⊗ var 2) (num (pos 0)) h)) refl
+  back_cross q d a h = same_from (minus (var 0) ⊗ var 3 ⊖ minus (var 1) ⊗ var 2) (num (pos 0)) (d.x ∷ d.y ∷ shift q a ∷ rise q a ∷ [])
+      (scaled (num (pos 0) ⊖ num (pos 1)) (same (var 0 ⊗ var 3 ⊖ var 1 ⊗ var 2) (num (pos 0)) h)) refl
 
   back_dot : (q : Point) (d : Direction) (a : Point) → dot_of q (back_of d) a ≡ neg_ℤ (dot_of q d a)
   unfolding dot_of back_of
-  back_dot q d a = same_from (minus (var 0) ⊗ var 2 ⊕ minus (var 1) ⊗ var 3) (minus (var 0 ⊗ var 2 ⊕ var 1 ⊗ var 3)) (d.x ∷ d.y ∷ shift q a ∷ rise q a ∷ []) (same (num (pos 0)) (num (pos 0)) refl) refl
+  back_dot q d a = same_from (minus (var 0) ⊗ var 2 ⊕ minus (var 1) ⊗ var 3) (minus (var 0 ⊗ var 2 ⊕ var 1 ⊗ var 3))
+      (d.x ∷ d.y ∷ shift q a ∷ rise q a ∷ []) (same (num (pos 0)) (num (pos 0)) refl) refl
 
   no_step : (q : Point) (d : Direction) (a : Point) → cross_of q d a ≡ pos 0 → dot_of q d a ≡ pos 0 → IsSamePoint q a
   unfolding cross_of dot_of
   no_step q d a h k = same_from_steps q a
       (zero_factor (d.x *ℤ d.x +ℤ d.y *ℤ d.y) (shift q a) (pos_nonzero (moving d))
       (same_from ((var 0 ⊗ var 0 ⊕ var 1 ⊗ var 1) ⊗ var 2) (num (pos 0)) (d.x ∷ d.y ∷ shift q a ∷ rise q a ∷ [])
-      (scaled (var 0) (same (var 0 ⊗ var 2 ⊕ var 1 ⊗ var 3) (num (pos 0)) k) ⊞ scaled (minus (var 1)) (same (var 0 ⊗ var 3 ⊖ var 1 ⊗ var 2) (num (pos 0)) h)) refl))
+      (scaled (var 0) (same (var 0 ⊗ var 2 ⊕ var 1 ⊗ var 3) (num (pos 0)) k)
+      ⊞ scaled (minus (var 1)) (same (var 0 ⊗ var 3 ⊖ var 1 ⊗ var 2) (num (pos 0)) h)) refl))
       (zero_factor (d.x *ℤ d.x +ℤ d.y *ℤ d.y) (rise q a) (pos_nonzero (moving d))
       (same_from ((var 0 ⊗ var 0 ⊕ var 1 ⊗ var 1) ⊗ var 3) (num (pos 0)) (d.x ∷ d.y ∷ shift q a ∷ rise q a ∷ [])
-      (scaled (var 1) (same (var 0 ⊗ var 2 ⊕ var 1 ⊗ var 3) (num (pos 0)) k) ⊞ scaled (var 0) (same (var 0 ⊗ var 3 ⊖ var 1 ⊗ var 2) (num (pos 0)) h)) refl))
+      (scaled (var 1) (same (var 0 ⊗ var 2 ⊕ var 1 ⊗ var 3) (num (pos 0)) k)
+      ⊞ scaled (var 0) (same (var 0 ⊗ var 3 ⊖ var 1 ⊗ var 2) (num (pos 0)) h)) refl))
 
   seen : (q : Point) (d : Direction) (a : Point) → ¬ IsSamePoint q a → IsSeen q d a
   seen q d a apart = by_sign (cross_of q d a) (λ h. beside (<ℤ_apart h)) level (λ h. beside (pos_nonzero h))
     where
       level : cross_of q d a ≡ pos 0 → IsSeen q d a
       level h = by_sign (dot_of q d a)
-          (λ less. behind (cone_toward q (back_of d) a (back_cross q d a h) (subst (λ z. pos 0 <ℤ z) (sym (back_dot q d a)) (omega (arith, linear, less)))))
+          (λ less. behind (cone_toward q (back_of d) a (back_cross q d a h)
+          (subst (λ z. pos 0 <ℤ z) (sym (back_dot q d a)) (omega (arith, linear, less)))))
           (λ k. absurd (apart (no_step q d a h k)))
           (λ more. ahead (cone_toward q d a h more))
 
@@ -269,7 +292,8 @@ module _ (first : LawFirstMeeting) (one other : Area) (shaped_one : IsAreaShaped
   way_to q a apart = record { x = shift q a; y = rise q a; moves = λ z. apart (same_from_steps q a z.0 z.1) }
 
   one_step : (z : ℤ) → pos 1 *ℤ z ≡ (pos 1 *ℤ z) +ℤ (pos 0 *ℤ z)
-  one_step z = same_from (num (pos 1) ⊗ var 0) (num (pos 1) ⊗ var 0 ⊕ num (pos 0) ⊗ var 0) (z ∷ []) (same (num (pos 0)) (num (pos 0)) refl) refl
+  one_step z = same_from (num (pos 1) ⊗ var 0) (num (pos 1) ⊗ var 0 ⊕ num (pos 0) ⊗ var 0) (z ∷ [])
+      (same (num (pos 0)) (num (pos 0)) refl) refl
 
   way_leads : (q a : Point) (apart : ¬ IsSamePoint q a) → IsInCone q (way_to q a apart) (way_to q a apart) a
   unfolding way_to shift
@@ -285,9 +309,11 @@ module _ (first : LawFirstMeeting) (one other : Area) (shaped_one : IsAreaShaped
     above = one_step (rise q a);
   }
 
-  none_of_cone : (q : Point) (d : Direction) (a : Point) (apart : ¬ IsSamePoint q a) → ¬ (cross_of q d a ≡ pos 0) → ¬ IsInCone q d (way_to q a apart) q
+  none_of_cone : (q : Point) (d : Direction) (a : Point) (apart : ¬ IsSamePoint q a) → ¬ (cross_of q d a ≡ pos 0)
+      → ¬ IsInCone q d (way_to q a apart) q
   unfolding cross_of shift way_to
-  none_of_cone q d a apart turned c = by_weights (zero_factor (cross_of q d a) c.i turned by_first) (zero_factor (cross_of q d a) c.j turned by_second)
+  none_of_cone q d a apart turned c = by_weights (zero_factor (cross_of q d a) c.i turned by_first)
+      (zero_factor (cross_of q d a) c.j turned by_second)
     where
       still_x : (c.i *ℤ d.x) +ℤ (c.j *ℤ shift q a) ≡ pos 0
       still_x = sym c.across ∙ ap (λ z. c.times *ℤ z) (shift_self q) ∙ *ℤ-zero c.times
@@ -297,11 +323,13 @@ module _ (first : LawFirstMeeting) (one other : Area) (shaped_one : IsAreaShaped
 
       by_first : cross_of q d a *ℤ c.i ≡ pos 0
       by_first = same_from ((var 0 ⊗ var 3 ⊖ var 1 ⊗ var 2) ⊗ var 4) (num (pos 0)) (d.x ∷ d.y ∷ shift q a ∷ rise q a ∷ c.i ∷ c.j ∷ [])
-          (scaled (var 3) (same (var 4 ⊗ var 0 ⊕ var 5 ⊗ var 2) (num (pos 0)) still_x) ⊞ scaled (minus (var 2)) (same (var 4 ⊗ var 1 ⊕ var 5 ⊗ var 3) (num (pos 0)) still_y)) refl
+          (scaled (var 3) (same (var 4 ⊗ var 0 ⊕ var 5 ⊗ var 2) (num (pos 0)) still_x)
+          ⊞ scaled (minus (var 2)) (same (var 4 ⊗ var 1 ⊕ var 5 ⊗ var 3) (num (pos 0)) still_y)) refl
 
       by_second : cross_of q d a *ℤ c.j ≡ pos 0
       by_second = same_from ((var 0 ⊗ var 3 ⊖ var 1 ⊗ var 2) ⊗ var 5) (num (pos 0)) (d.x ∷ d.y ∷ shift q a ∷ rise q a ∷ c.i ∷ c.j ∷ [])
-          (scaled (minus (var 1)) (same (var 4 ⊗ var 0 ⊕ var 5 ⊗ var 2) (num (pos 0)) still_x) ⊞ scaled (var 0) (same (var 4 ⊗ var 1 ⊕ var 5 ⊗ var 3) (num (pos 0)) still_y)) refl
+          (scaled (minus (var 1)) (same (var 4 ⊗ var 0 ⊕ var 5 ⊗ var 2) (num (pos 0)) still_x)
+          ⊞ scaled (var 0) (same (var 4 ⊗ var 1 ⊕ var 5 ⊗ var 3) (num (pos 0)) still_y)) refl
 
       by_weights : c.i ≡ pos 0 → c.j ≡ pos 0 → ⊥
       by_weights z w = let some = c.some in <ℤ_irrefl (subst (λ s. pos 0 <ℤ s) (λ k. z k +ℤ w k) some)
@@ -312,19 +340,25 @@ module _ (first : LawFirstMeeting) (one other : Area) (shaped_one : IsAreaShaped
   on_at_place (e ∷ edges) (suc i) g x is on = or_right (is_on_edge x e) (is_on_edges x edges) (on_at_place edges i g x is on)
 
   -- points between q and another point of an edge are on the edge
-  between_on : (q : Point) (g : Seg) (a : Point) → is_on_edge q g ≡ true → IsOnSegment (point_of g.a) (point_of g.b) a → (x : Point) → IsOnSegment q a x → is_on_edge x g ≡ true
+  between_on : (q : Point) (g : Seg) (a : Point) → is_on_edge q g ≡ true → IsOnSegment (point_of g.a) (point_of g.b) a → (x : Point)
+      → IsOnSegment q a x → is_on_edge x g ≡ true
   between_on q g a on on_a x within = (Decides-is_on_segment (point_of g.a) (point_of g.b) x).1 (segment_within (on_true on) on_a within)
 
   -- no edge runs from q straight on to p
-  not_ahead : (area : Area) (l : Loc) → l ≢ Boundary → (q : Point) (d : Direction) → IsGerm area q d l → (i : ℕ) (g : Seg) → IsAtPlace (edges_in area) i g → is_on_edge q g ≡ true → (a : Point) → IsOnSegment (point_of g.a) (point_of g.b) a → ¬ IsInCone q d d a
+  not_ahead : (area : Area) (l : Loc) → l ≢ Boundary → (q : Point) (d : Direction) → IsGerm area q d l → (i : ℕ) (g : Seg)
+      → IsAtPlace (edges_in area) i g → is_on_edge q g ≡ true → (a : Point) → IsOnSegment (point_of g.a) (point_of g.b) a
+      → ¬ IsInCone q d d a
   not_ahead area l free q d germ i g is on a on_a c =
       let n = germ.from + size_of ((c.times *ℤ q.w) *ℤ a.w) in
       let x = away_point q d n in
       let away = away_point_is q d n in
-      free (sym (germ.holds (suc n) (omega arith) x away) ∙ boundary area x (on_at_place (edges_in area) i g x is (between_on q g a on on_a x (toward_on q d a c (suc n) x (omega arith) away))))
+      free (sym (germ.holds (suc n) (omega arith) x away) ∙ boundary area x
+      (on_at_place (edges_in area) i g x is (between_on q g a on on_a x (toward_on q d a c (suc n) x (omega arith) away))))
 
   -- two edges that run from q along one direction have a common segment
-  shared_along : (q : Point) (d : Direction) (i j : ℕ) (g h : Seg) → IsAtPlace (edges_in one) i g → IsAtPlace (edges_in other) j h → is_on_edge q g ≡ true → is_on_edge q h ≡ true → (a b : Point) → IsOnSegment (point_of g.a) (point_of g.b) a → IsOnSegment (point_of h.a) (point_of h.b) b → IsInCone q d d a → ¬ IsInCone q d d b
+  shared_along : (q : Point) (d : Direction) (i j : ℕ) (g h : Seg) → IsAtPlace (edges_in one) i g → IsAtPlace (edges_in other) j h
+      → is_on_edge q g ≡ true → is_on_edge q h ≡ true → (a b : Point) → IsOnSegment (point_of g.a) (point_of g.b) a
+      → IsOnSegment (point_of h.a) (point_of h.b) b → IsInCone q d d a → ¬ IsInCone q d d b
   shared_along q d i j g h is_g is_h on_g on_h a b on_a on_b c k =
       let n = size_of ((c.times *ℤ q.w) *ℤ a.w) + size_of ((k.times *ℤ q.w) *ℤ b.w) in
       let x = away_point q d n in
@@ -351,7 +385,8 @@ module _ (first : LawFirstMeeting) (one other : Area) (shaped_one : IsAreaShaped
 
   module _ (moving_edges : LawMoving) where
     at_common : {p t q : Point} → IsThere p → IsFirstMeeting all p t q → IsBoth q → Found
-    at_common {p} {t} {q} there meeting both = by_places (some_place (edges_in one) q both.of_one) (some_place (edges_in other) q both.of_other)
+    at_common {p} {t} {q} there meeting both = by_places (some_place (edges_in one) q both.of_one)
+        (some_place (edges_in other) q both.of_other)
       where
         apart : ¬ IsSamePoint q p
         apart same = true≢false (sym meeting.on ∙ is_on_edges-same same all ∙ off_all there)
@@ -368,7 +403,8 @@ module _ (first : LawFirstMeeting) (one other : Area) (shaped_one : IsAreaShaped
         germ_other : IsGerm other q d (location other p)
         germ_other = germ_towards other shaped_other all (λ m h. in_right (edges_in one) (edges_in other) m h) meeting d c
 
-        turn_to : (g : Seg) → is_on_edge q g ≡ true → (e : HasFarEnd q g) → ((x : Point) → is_on_edge x g ≡ true → is_on_edges x all ≡ true) → ¬ (cross_of q d e.a ≡ pos 0) → Found
+        turn_to : (g : Seg) → is_on_edge q g ≡ true → (e : HasFarEnd q g)
+            → ((x : Point) → is_on_edge x g ≡ true → is_on_edges x all ≡ true) → ¬ (cross_of q d e.a ≡ pos 0) → Found
         turn_to g on e among turned = round_both there meeting d c (record {
           r = way_to q e.a e.apart;
           a = e.a;
@@ -387,10 +423,14 @@ module _ (first : LawFirstMeeting) (one other : Area) (shaped_one : IsAreaShaped
             far' = far_end q h (moving_edges other j h is_h)
 
             by_seen : IsSeen q d far.a → IsSeen q d far'.a → Found
-            by_seen (ahead k) s = absurd (not_ahead one (location one p) (λ z. not_boundary (sym there.in_one ∙ z)) q d germ_one i g is_g on_g far.a far.on k)
-            by_seen (beside k) s = turn_to g on_g far (λ x on. in_left (edges_in one) (edges_in other) x (on_at_place (edges_in one) i g x is_g on)) k
-            by_seen (behind k) (ahead l) = absurd (not_ahead other (location other p) (λ z. inner (sym there.in_other ∙ z)) q d germ_other j h is_h on_h far'.a far'.on l)
-            by_seen (behind k) (beside l) = turn_to h on_h far' (λ x on. in_right (edges_in one) (edges_in other) x (on_at_place (edges_in other) j h x is_h on)) l
+            by_seen (ahead k) s = absurd
+                (not_ahead one (location one p) (λ z. not_boundary (sym there.in_one ∙ z)) q d germ_one i g is_g on_g far.a far.on k)
+            by_seen (beside k) s = turn_to g on_g far
+                (λ x on. in_left (edges_in one) (edges_in other) x (on_at_place (edges_in one) i g x is_g on)) k
+            by_seen (behind k) (ahead l) = absurd
+                (not_ahead other (location other p) (λ z. inner (sym there.in_other ∙ z)) q d germ_other j h is_h on_h far'.a far'.on l)
+            by_seen (behind k) (beside l) = turn_to h on_h far'
+                (λ x on. in_right (edges_in one) (edges_in other) x (on_at_place (edges_in other) j h x is_h on)) l
             by_seen (behind k) (behind l) = absurd (shared_along q (back_of d) i j g h is_g is_h on_g on_h far.a far'.a far.on far'.on k l)
 
     -- ---- from any point that breaks the clause
@@ -406,11 +446,14 @@ module _ (first : LawFirstMeeting) (one other : Area) (shaped_one : IsAreaShaped
     odd_edges p [] h = cc
     odd_edges p (e ∷ edges) h = (
       point_of e.a,
-      or_left (is_on_edge (point_of e.a) e) (is_on_edges (point_of e.a) edges) ((Decides-is_on_segment (point_of e.a) (point_of e.b) (point_of e.a)).1 (start_on_segment (point_of e.a) (point_of e.b))),
+      or_left (is_on_edge (point_of e.a) e) (is_on_edges (point_of e.a) edges)
+          ((Decides-is_on_segment (point_of e.a) (point_of e.b) (point_of e.a)).1 (start_on_segment (point_of e.a) (point_of e.b))),
     )
 
     reach : (p : Point) → IsThere p → Found
-    reach p there = by_target (odd_edges p (edges_of one.shell) (and_parts (not (is_on_edges p (edges_of one.shell))) (is_odd p (edges_of one.shell)) (inside_shell p there.in_one)).1)
+    reach p there = by_target
+        (odd_edges p (edges_of one.shell)
+        (and_parts (not (is_on_edges p (edges_of one.shell))) (is_odd p (edges_of one.shell)) (inside_shell p there.in_one)).1)
       where
         by_target : ((t : Point) × (is_on_edges t (edges_of one.shell) ≡ true)) → Found
         by_target (t, on) = by_meeting (first all p t (off_all there))
@@ -424,7 +467,8 @@ module _ (first : LawFirstMeeting) (one other : Area) (shaped_one : IsAreaShaped
 
             by_meeting : ((m : Point) → IsOnSegment p t m → is_on_edges m all ≡ false) ⊎ ((q : Point) × IsFirstMeeting all p t q) → Found
             by_meeting (inl free) = absurd (true≢false (sym on_all ∙ free t (end_on_segment p t)))
-            by_meeting (inr (q, meeting)) = by_both q meeting (settle there meeting (is_on_edges q (edges_in one)) (is_on_edges q (edges_in other)) refl refl)
+            by_meeting (inr (q, meeting)) = by_both q meeting
+                (settle there meeting (is_on_edges q (edges_in one)) (is_on_edges q (edges_in other)) refl refl)
 
 reached : LawFirstMeeting → LawMoving → LawReach
 reached first moves one other shaped_one shaped_other unshared p in_one part inner in_other =

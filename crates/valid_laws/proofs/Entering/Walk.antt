@@ -35,7 +35,8 @@ use Rattle.valid_laws.specs.Entering.{edges_in, LawWalk}
 use Rattle.meeting_laws.specs.Meetings.{IsFirstMeeting, LawFirstMeeting}
 
 -- k·x is s·a + t·b and l·q is u·x + w·a; so q, x and b are in this order
-order_sum : (k s t l u w a b x q : ℤ) → k *ℤ x ≡ (s *ℤ a) +ℤ (t *ℤ b) → l *ℤ q ≡ (u *ℤ x) +ℤ (w *ℤ a) → ((u *ℤ s) +ℤ (w *ℤ k)) *ℤ x ≡ ((s *ℤ l) *ℤ q) +ℤ ((w *ℤ t) *ℤ b)
+order_sum : (k s t l u w a b x q : ℤ) → k *ℤ x ≡ (s *ℤ a) +ℤ (t *ℤ b) → l *ℤ q ≡ (u *ℤ x) +ℤ (w *ℤ a)
+    → ((u *ℤ s) +ℤ (w *ℤ k)) *ℤ x ≡ ((s *ℤ l) *ℤ q) +ℤ ((w *ℤ t) *ℤ b)
 order_sum k s t l u w a b x q e f =
     same_from ((var 4 ⊗ var 1 ⊕ var 5 ⊗ var 0) ⊗ var 8) ((var 1 ⊗ var 3) ⊗ var 9 ⊕ (var 5 ⊗ var 2) ⊗ var 7)
     (k ∷ s ∷ t ∷ l ∷ u ∷ w ∷ a ∷ b ∷ x ∷ q ∷ [])
@@ -79,7 +80,8 @@ seen_back {a} {b} {x} {q} on_x on_q some =
 
 -- x is between q and b, also where it is b
 back_always : {a b x q : Point} → IsOnSegment a b x → IsOnSegment x a q → IsOnSegment q b x
-back_always {a} {b} {x} {q} on_x on_q = by_sign on_x.s (λ less. absurd (<ℤ_irrefl (<ℤ-≤ℤ_trans less on_x.mix.first))) at_end (λ more. seen_back on_x on_q more)
+back_always {a} {b} {x} {q} on_x on_q = by_sign on_x.s (λ less. absurd (<ℤ_irrefl (<ℤ-≤ℤ_trans less on_x.mix.first))) at_end
+    (λ more. seen_back on_x on_q more)
   where
     none : (k s z y : ℤ) → pos 0 <ℤ k → s ≡ pos 0 → k *ℤ z ≡ s *ℤ y → z ≡ pos 0
     none k s z y hk e f = zero_factor k z (pos_nonzero hk) (f ∙ ap (λ r. r *ℤ y) e ∙ zero-*ℤ y)
@@ -87,11 +89,13 @@ back_always {a} {b} {x} {q} on_x on_q = by_sign on_x.s (λ less. absurd (<ℤ_ir
     at_end : on_x.s ≡ pos 0 → IsOnSegment q b x
     at_end z =
         let m = on_x.mix in
-        let same_end : IsSamePoint x b = same_from_steps x b (none m.times on_x.s (shift x b) (shift a b) m.some z (mix_shift_end m)) (none m.times on_x.s (rise x b) (rise a b) m.some z (mix_rise_end m)) in
+        let same_end : IsSamePoint x b = same_from_steps x b (none m.times on_x.s (shift x b) (shift a b) m.some z (mix_shift_end m))
+        (none m.times on_x.s (rise x b) (rise a b) m.some z (mix_rise_end m)) in
         segment_same (same_refl q) (same_refl b) (same_sym same_end) (end_on_segment q b)
 
 -- what is between two points of one way is on that way
-cone_sum : (k s t z x y c r l g d : ℤ) → k *ℤ z ≡ (s *ℤ x) +ℤ (t *ℤ y) → c *ℤ x ≡ r *ℤ d → l *ℤ y ≡ g *ℤ d → (k *ℤ (c *ℤ l)) *ℤ z ≡ (((s *ℤ l) *ℤ r) *ℤ d) +ℤ (((t *ℤ c) *ℤ g) *ℤ d)
+cone_sum : (k s t z x y c r l g d : ℤ) → k *ℤ z ≡ (s *ℤ x) +ℤ (t *ℤ y) → c *ℤ x ≡ r *ℤ d → l *ℤ y ≡ g *ℤ d
+    → (k *ℤ (c *ℤ l)) *ℤ z ≡ (((s *ℤ l) *ℤ r) *ℤ d) +ℤ (((t *ℤ c) *ℤ g) *ℤ d)
 cone_sum k s t z x y c r l g d e f h =
     same_from ((var 0 ⊗ (var 6 ⊗ var 8)) ⊗ var 3) (((var 1 ⊗ var 8) ⊗ var 7) ⊗ var 10 ⊕ ((var 2 ⊗ var 6) ⊗ var 9) ⊗ var 10)
     (k ∷ s ∷ t ∷ z ∷ x ∷ y ∷ c ∷ r ∷ l ∷ g ∷ d ∷ [])
@@ -100,7 +104,8 @@ cone_sum k s t z x y c r l g d e f h =
     ⊞ scaled (var 2 ⊗ var 6) (same (var 8 ⊗ var 5) (var 9 ⊗ var 10) h)) refl
 
 joined_cone : (c i j x z : ℤ) → c *ℤ z ≡ (i *ℤ x) +ℤ (j *ℤ x) → c *ℤ z ≡ (i +ℤ j) *ℤ x
-joined_cone c i j x z e = same_from (var 0 ⊗ var 4) ((var 1 ⊕ var 2) ⊗ var 3) (c ∷ i ∷ j ∷ x ∷ z ∷ []) (same (var 0 ⊗ var 4) (var 1 ⊗ var 3 ⊕ var 2 ⊗ var 3) e) refl
+joined_cone c i j x z e = same_from (var 0 ⊗ var 4) ((var 1 ⊕ var 2) ⊗ var 3) (c ∷ i ∷ j ∷ x ∷ z ∷ [])
+    (same (var 0 ⊗ var 4) (var 1 ⊗ var 3 ⊕ var 2 ⊗ var 3) e) refl
 
 pub cone_mix : {v : Point} {d : Direction} {p x m : Point} → IsInCone v d d p → IsInCone v d d x → IsOnSegment p x m → IsInCone v d d m
 cone_mix {v} {d} {p} {x} {m} c e on =
@@ -110,16 +115,22 @@ cone_mix {v} {d} {p} {x} {m} c e on =
       j = (on.t *ℤ c.times) *ℤ (e.i +ℤ e.j);
       first = nonneg-*-nonneg (nonneg-*-nonneg n.first (<ℤ_weaken e.positive)) (<ℤ_weaken c.some);
       second = nonneg-*-nonneg (nonneg-*-nonneg n.second (<ℤ_weaken c.positive)) (<ℤ_weaken e.some);
-      some = weighed on.s on.t (e.times *ℤ (c.i +ℤ c.j)) (c.times *ℤ (e.i +ℤ e.j)) ((on.s *ℤ e.times) *ℤ (c.i +ℤ c.j)) ((on.t *ℤ c.times) *ℤ (e.i +ℤ e.j)) n.first n.second (some_weight n) (pos-*-pos e.positive c.some) (pos-*-pos c.positive e.some)
-      (same_from ((var 0 ⊗ var 1) ⊗ var 2) (var 0 ⊗ (var 1 ⊗ var 2)) (on.s ∷ e.times ∷ (c.i +ℤ c.j) ∷ []) (same (num (pos 0)) (num (pos 0)) refl) refl)
-      (same_from ((var 0 ⊗ var 1) ⊗ var 2) (var 0 ⊗ (var 1 ⊗ var 2)) (on.t ∷ c.times ∷ (e.i +ℤ e.j) ∷ []) (same (num (pos 0)) (num (pos 0)) refl) refl);
+      some = weighed on.s on.t (e.times *ℤ (c.i +ℤ c.j)) (c.times *ℤ (e.i +ℤ e.j)) ((on.s *ℤ e.times) *ℤ (c.i +ℤ c.j))
+          ((on.t *ℤ c.times) *ℤ (e.i +ℤ e.j)) n.first n.second (some_weight n) (pos-*-pos e.positive c.some) (pos-*-pos c.positive e.some)
+          (same_from ((var 0 ⊗ var 1) ⊗ var 2) (var 0 ⊗ (var 1 ⊗ var 2)) (on.s ∷ e.times ∷ (c.i +ℤ c.j) ∷ [])
+          (same (num (pos 0)) (num (pos 0)) refl) refl)
+          (same_from ((var 0 ⊗ var 1) ⊗ var 2) (var 0 ⊗ (var 1 ⊗ var 2)) (on.t ∷ c.times ∷ (e.i +ℤ e.j) ∷ [])
+          (same (num (pos 0)) (num (pos 0)) refl) refl);
       times = n.times *ℤ (c.times *ℤ e.times);
       positive = pos-*-pos n.some (pos-*-pos c.positive e.positive);
-      across = cone_sum n.times on.s on.t (shift v m) (shift v p) (shift v x) c.times (c.i +ℤ c.j) e.times (e.i +ℤ e.j) d.x (shift_mix v n) (joined_cone c.times c.i c.j d.x (shift v p) c.across) (joined_cone e.times e.i e.j d.x (shift v x) e.across);
-      above = cone_sum n.times on.s on.t (rise v m) (rise v p) (rise v x) c.times (c.i +ℤ c.j) e.times (e.i +ℤ e.j) d.y (rise_mix v n) (joined_cone c.times c.i c.j d.y (rise v p) c.above) (joined_cone e.times e.i e.j d.y (rise v x) e.above);
+      across = cone_sum n.times on.s on.t (shift v m) (shift v p) (shift v x) c.times (c.i +ℤ c.j) e.times (e.i +ℤ e.j) d.x
+          (shift_mix v n) (joined_cone c.times c.i c.j d.x (shift v p) c.across) (joined_cone e.times e.i e.j d.x (shift v x) e.across);
+      above = cone_sum n.times on.s on.t (rise v m) (rise v p) (rise v x) c.times (c.i +ℤ c.j) e.times (e.i +ℤ e.j) d.y (rise_mix v n)
+          (joined_cone c.times c.i c.j d.y (rise v p) c.above) (joined_cone e.times e.i e.j d.y (rise v x) e.above);
     }
   where
-    weighed : (u w s k a b : ℤ) → pos 0 ≤ℤ u → pos 0 ≤ℤ w → pos 0 <ℤ (u +ℤ w) → pos 0 <ℤ s → pos 0 <ℤ k → a ≡ u *ℤ s → b ≡ w *ℤ k → pos 0 <ℤ (a +ℤ b)
+    weighed : (u w s k a b : ℤ) → pos 0 ≤ℤ u → pos 0 ≤ℤ w → pos 0 <ℤ (u +ℤ w) → pos 0 <ℤ s → pos 0 <ℤ k → a ≡ u *ℤ s → b ≡ w *ℤ k
+        → pos 0 <ℤ (a +ℤ b)
     weighed u w s k a b hu hw h hs hk ea eb = by_sign u (λ less. absurd (<ℤ_irrefl (<ℤ-≤ℤ_trans less hu))) none some_first
       where
         none : u ≡ pos 0 → pos 0 <ℤ (a +ℤ b)
@@ -148,7 +159,8 @@ module _ (first : LawFirstMeeting) (area : Area) (shaped : IsAreaShaped area) (p
       boundary on = ap (λ z. location_by z (is_inside x area.shell) (list_any (is_inside x) area.holes)) on
 
   -- from the first meeting q on the way back, the germ towards x is the part
-  germ_back : (x a q : Point) → location area x ≡ part → IsFirstMeeting (edges_in area) x a q → (d : Direction) → IsInCone q d d x → IsGerm area q d part
+  germ_back : (x a q : Point) → location area x ≡ part → IsFirstMeeting (edges_in area) x a q → (d : Direction) → IsInCone q d d x
+      → IsGerm area q d part
   germ_back x a q lies meeting d c = record {
     from = size_of ((c.times *ℤ q.w) *ℤ x.w);
     holds = λ n far p away.
@@ -156,28 +168,42 @@ module _ (first : LawFirstMeeting) (area : Area) (shaped : IsAreaShaped area) (p
         location_stays p x area shaped (record { off = λ m within. free n p far away on m within }) ∙ lies;
   }
     where
-      free : (n : ℕ) (p : Point) → size_of ((c.times *ℤ q.w) *ℤ x.w) < n → IsAway q d n p → IsOnSegment q x p → (m : Point) → IsOnSegment p x m → is_on_edges m (edges_in area) ≡ false
-      free n p far away on m within = false_from_ne_true (is_on_edges m (edges_in area)) (λ held. at_start n p far away on m within (meeting.first m (segment_flip (segment_within on (end_on_segment q x) within)) held))
+      free : (n : ℕ) (p : Point) → size_of ((c.times *ℤ q.w) *ℤ x.w) < n → IsAway q d n p → IsOnSegment q x p → (m : Point)
+          → IsOnSegment p x m → is_on_edges m (edges_in area) ≡ false
+      free n p far away on m within = false_from_ne_true (is_on_edges m (edges_in area))
+          (λ held. at_start n p far away on m within (meeting.first m (segment_flip (segment_within on (end_on_segment q x) within)) held))
         where
-          at_start : (n : ℕ) (p : Point) → size_of ((c.times *ℤ q.w) *ℤ x.w) < n → IsAway q d n p → IsOnSegment q x p → (m : Point) → IsOnSegment p x m → IsSamePoint m q → ⊥
+          at_start : (n : ℕ) (p : Point) → size_of ((c.times *ℤ q.w) *ℤ x.w) < n → IsAway q d n p → IsOnSegment q x p → (m : Point)
+              → IsOnSegment p x m → IsSamePoint m q → ⊥
           at_start n p far away on m within same_q =
-              direction_pointed q d (cone_mix (away_cone (omega (arith, far)) away) c (segment_same (same_refl p) (same_refl x) same_q within))
+              direction_pointed q d
+              (cone_mix (away_cone (omega (arith, far)) away) c (segment_same (same_refl p) (same_refl x) same_q within))
 
-  along_edge : (e : Seg) → location area (point_of e.a) ≢ part → ((v : Point) → is_on_edge v e ≡ true → is_on_edges v (edges_in area) ≡ true → (d : Direction) → IsInCone v d d (point_of e.b) → ¬ IsGerm area v d part) → (x : Point) → is_on_edge x e ≡ true → location area x ≢ part
+  along_edge : (e : Seg) → location area (point_of e.a) ≢ part
+      → ((v : Point) → is_on_edge v e ≡ true → is_on_edges v (edges_in area) ≡ true → (d : Direction) → IsInCone v d d (point_of e.b)
+      → ¬ IsGerm area v d part) → (x : Point) → is_on_edge x e ≡ true → location area x ≢ part
   along_edge e start held x on lies = go (first (edges_in area) x (point_of e.a) (off_part x lies))
     where
-      go : ((m : Point) → IsOnSegment x (point_of e.a) m → is_on_edges m (edges_in area) ≡ false) ⊎ ((q : Point) × IsFirstMeeting (edges_in area) x (point_of e.a) q) → ⊥
+      go : ((m : Point) → IsOnSegment x (point_of e.a) m → is_on_edges m (edges_in area) ≡ false)
+          ⊎ ((q : Point) × IsFirstMeeting (edges_in area) x (point_of e.a) q) → ⊥
       go (inl free) = start (sym (location_stays x (point_of e.a) area shaped (record { off = free })) ∙ lies)
       go (inr (q, meeting)) = held q on_q meeting.on d to_b (germ_back x (point_of e.a) q lies meeting d to_x)
         where
           on_q : is_on_edge q e ≡ true
-          on_q = (Decides-is_on_segment (point_of e.a) (point_of e.b) q).1 (segment_within (on_true on) (start_on_segment (point_of e.a) (point_of e.b)) meeting.on_way)
+          on_q = (Decides-is_on_segment (point_of e.a) (point_of e.b) q).1
+              (segment_within (on_true on) (start_on_segment (point_of e.a) (point_of e.b)) meeting.on_way)
 
           d : Direction
-          d = record { x = shift q x; y = rise q x; moves = λ still. true≢false (sym meeting.on ∙ is_on_edges-same (same_from_steps q x still.0 still.1) (edges_in area) ∙ off_part x lies) }
+          d = record {
+            x = shift q x;
+            y = rise q x;
+            moves = λ still.
+                true≢false (sym meeting.on ∙ is_on_edges-same (same_from_steps q x still.0 still.1) (edges_in area) ∙ off_part x lies);
+          }
 
           one_step : (z : ℤ) → pos 1 *ℤ z ≡ (pos 1 *ℤ z) +ℤ (pos 0 *ℤ z)
-          one_step z = same_from (num (pos 1) ⊗ var 0) (num (pos 1) ⊗ var 0 ⊕ num (pos 0) ⊗ var 0) (z ∷ []) (same (num (pos 0)) (num (pos 0)) refl) refl
+          one_step z = same_from (num (pos 1) ⊗ var 0) (num (pos 1) ⊗ var 0 ⊕ num (pos 0) ⊗ var 0) (z ∷ [])
+              (same (num (pos 0)) (num (pos 0)) refl) refl
 
           to_x : IsInCone q d d x
           to_x = record {
@@ -199,7 +225,8 @@ module _ (first : LawFirstMeeting) (area : Area) (shaped : IsAreaShaped area) (p
           with_none k z = omega (arith, linear)
 
           reached : (k t z y : ℤ) → k *ℤ z ≡ t *ℤ y → t *ℤ y ≡ (k *ℤ z) +ℤ (pos 0 *ℤ z)
-          reached k t z y h = same_from (var 1 ⊗ var 3) (var 0 ⊗ var 2 ⊕ num (pos 0) ⊗ var 2) (k ∷ t ∷ z ∷ y ∷ []) (scaled (num (pos 0) ⊖ num (pos 1)) (same (var 0 ⊗ var 2) (var 1 ⊗ var 3) h)) refl
+          reached k t z y h = same_from (var 1 ⊗ var 3) (var 0 ⊗ var 2 ⊕ num (pos 0) ⊗ var 2) (k ∷ t ∷ z ∷ y ∷ [])
+              (scaled (num (pos 0) ⊖ num (pos 1)) (same (var 0 ⊗ var 2) (var 1 ⊗ var 3) h)) refl
 
           still : (k t z y : ℤ) → pos 0 <ℤ k → t ≡ pos 0 → k *ℤ z ≡ t *ℤ y → z ≡ pos 0
           still k t z y hk h f = zero_factor k z (pos_nonzero hk) (f ∙ ap (λ r. r *ℤ y) h ∙ zero-*ℤ y)
@@ -213,10 +240,10 @@ module _ (first : LawFirstMeeting) (area : Area) (shaped : IsAreaShaped area) (p
             some = (let k = o.mix.some in omega (arith, linear, k));
             times = o.t;
             positive = by_sign o.t (λ less. absurd (<ℤ_irrefl (<ℤ-≤ℤ_trans less o.mix.second)))
-            (λ z. absurd (d.moves (
-              still o.mix.times o.t (shift q x) (shift q (point_of e.b)) o.mix.some z (mix_shift_start o.mix),
-              still o.mix.times o.t (rise q x) (rise q (point_of e.b)) o.mix.some z (mix_rise_start o.mix),
-            ))) (λ more. more);
+                (λ z. absurd (d.moves (
+                  still o.mix.times o.t (shift q x) (shift q (point_of e.b)) o.mix.some z (mix_shift_start o.mix),
+                  still o.mix.times o.t (rise q x) (rise q (point_of e.b)) o.mix.some z (mix_rise_start o.mix),
+                ))) (λ more. more);
             across = reached o.mix.times o.t (shift q x) (shift q (point_of e.b)) (mix_shift_start o.mix);
             above = reached o.mix.times o.t (rise q x) (rise q (point_of e.b)) (mix_rise_start o.mix);
           }
@@ -240,13 +267,18 @@ some_place (e ∷ edges) x on = go (some_place edges x) (is_on_edge x e) refl
         let rest = more (ap (λ b. b || is_on_edges x edges) (sym h) ∙ on) in
         (suc rest.0, rest.1, rest.2, rest.3)
 
-module _ (edges : List Seg) (chained : (i : ℕ) (e f : Seg) → IsAtPlace edges i e → IsAtPlace edges (suc i) f → f.a ≡ e.b) (Clean : Point → Type 0) (carry : (i : ℕ) (e : Seg) → IsAtPlace edges i e → Clean (point_of e.a) → (x : Point) → is_on_edge x e ≡ true → Clean x) (start : (e : Seg) → IsAtPlace edges 0 e → Clean (point_of e.a)) where
+module _ (edges : List Seg) (chained : (i : ℕ) (e f : Seg) → IsAtPlace edges i e → IsAtPlace edges (suc i) f → f.a ≡ e.b)
+    (Clean : Point → Type 0)
+    (carry : (i : ℕ) (e : Seg) → IsAtPlace edges i e → Clean (point_of e.a) → (x : Point) → is_on_edge x e ≡ true → Clean x)
+    (start : (e : Seg) → IsAtPlace edges 0 e → Clean (point_of e.a)) where
   begins_at : (i : ℕ) (e : Seg) → IsAtPlace edges i e → Clean (point_of e.a)
   begins_at zero e is = start e is
   begins_at (suc i) e is =
       let before = place_before edges i e is in
       subst (λ p. Clean (point_of p)) (sym (chained i before.0 e before.1 is))
-      (carry i before.0 before.1 (begins_at i before.0 before.1) (point_of before.0.b) ((Decides-is_on_segment (point_of before.0.a) (point_of before.0.b) (point_of before.0.b)).1 (end_on_segment (point_of before.0.a) (point_of before.0.b))))
+      (carry i before.0 before.1 (begins_at i before.0 before.1) (point_of before.0.b)
+      ((Decides-is_on_segment (point_of before.0.a) (point_of before.0.b) (point_of before.0.b)).1
+      (end_on_segment (point_of before.0.a) (point_of before.0.b))))
 
 walk_where : LawFirstMeeting → LawWalk
 walk_where first ring area ring_ok shaped part inner start held enters = by_place (some_place (edges_of ring) enters.x enters.on)
@@ -254,7 +286,8 @@ walk_where first ring area ring_ok shaped part inner start held enters = by_plac
     simple : IsSimple (edges_of ring)
     simple = ring_is_simple ring ring_ok.shaped.closed ring_ok.simple
 
-    clean_edge : (i : ℕ) (e : Seg) → IsAtPlace (edges_of ring) i e → location area (point_of e.a) ≢ part → (x : Point) → is_on_edge x e ≡ true → location area x ≢ part
+    clean_edge : (i : ℕ) (e : Seg) → IsAtPlace (edges_of ring) i e → location area (point_of e.a) ≢ part → (x : Point)
+        → is_on_edge x e ≡ true → location area x ≢ part
     clean_edge i e is begins = along_edge first area shaped part inner e begins (λ v on_v on_area d c. held i e is v on_v on_area d c)
 
     begins : (i : ℕ) (e : Seg) → IsAtPlace (edges_of ring) i e → location area (point_of e.a) ≢ part
