@@ -2,14 +2,14 @@
 use Rattle.std.proofs.Common.{◌≡◌, Some, Result, Ok, Err, List, [], ◌∷◌, ◌++◌, ◌⊎◌, inl, inr, refl, sym, ap, subst, ◌∙◌}
 use Rattle.std.proofs.lemmas.Option.{some_pair_parts}
 use Rattle.wkt_text.specs.declared.token.Token.{Token}
-use Rattle.wkt_text.specs.declared.control.Role.{Role}
-use Rattle.wkt_text.specs.declared.control.Control.{Control}
-use Rattle.wkt_text.specs.declared.control.Step.TheVariants.{Done}
+use Rattle.wkt_text.specs.declared.state.Role.{Role}
+use Rattle.wkt_text.specs.declared.state.Control.{Control}
+use Rattle.wkt_text.specs.declared.state.Step.TheVariants.{Done}
 use Rattle.wkt_text.specs.declared.control.WktKind.{WktKind}
 use Rattle.wkt_text.specs.declared.build.Build.{Build}
 use Rattle.wkt_text.specs.Machine.{advance}
 use Rattle.wkt_text.specs.Grammar.{Slot, slot}
-use Rattle.wkt_text.specs.Rules.{◌>>=◌, act}
+use Rattle.wkt_text.specs.Building.{◌>>=◌, act}
 use Rattle.wkt_text.specs.Faults.{tokens_of, builds}
 use Rattle.wkt_text.proofs.Parses.{Run, Goes}
 

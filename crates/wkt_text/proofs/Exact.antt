@@ -12,16 +12,16 @@ use Rattle.wkt_text.specs.declared.word.TypeWord.TheVariants as type
 use Rattle.wkt_text.specs.declared.word.Tag.{Tag}
 use Rattle.wkt_text.specs.declared.token.Token.{Token}
 use Rattle.wkt_text.specs.declared.token.Token.TheVariants as token
-use Rattle.wkt_text.specs.declared.control.Role.{Role}
-use Rattle.wkt_text.specs.declared.control.Role.TheVariants.{Head, Mark}
-use Rattle.wkt_text.specs.declared.control.Control.{Control}
+use Rattle.wkt_text.specs.declared.state.Role.{Role}
+use Rattle.wkt_text.specs.declared.state.Role.TheVariants.{Head, Mark}
+use Rattle.wkt_text.specs.declared.state.Control.{Control}
 use Rattle.wkt_text.specs.declared.control.WktKind.{WktKind}
 use Rattle.wkt_text.specs.declared.build.Build.{Build}
 use Rattle.wkt_text.specs.declared.read.Parsed.{Parsed}
 use Rattle.wkt_text.specs.declared.read.WktFault.{WktFault}
 use Rattle.wkt_text.specs.declared.read.WktFault.TheVariants as fault
 use Rattle.wkt_text.specs.Tokens.{token_in, lexeme_at}
-use Rattle.wkt_text.specs.Rules.{act}
+use Rattle.wkt_text.specs.Building.{act}
 use Rattle.wkt_text.specs.Grammar.{depth_role, Slot, Writing, joined, apart, Geometry, simple, empty_collection, collection, type_of_simple, simple_then, gap_then, slot, geometry_then, geometries_then, head_then, spelling}
 use Rattle.wkt_text.specs.Faults.{Stands, tokens_of, Reads, IsRight, IsOnlyWhite, HasKind, breaks, unknown_type, ragged, syntax, FirstFault}
 use Rattle.wkt_text.specs.Results.{IsFirstFault, IsReadAs, IsFaultAt}

@@ -8,20 +8,22 @@ use Rattle.wkt_text.specs.declared.word.Tag.{Tag}
 use Rattle.wkt_text.specs.declared.word.Tag.TheVariants.{Plain, Z, M, Zm}
 use Rattle.wkt_text.specs.declared.token.Token.{Token}
 use Rattle.wkt_text.specs.declared.token.Token.TheVariants as token
-use Rattle.wkt_text.specs.declared.control.Role.{Role}
-use Rattle.wkt_text.specs.declared.control.Role.TheVariants.{Head, Deep, Demanded, Further}
-use Rattle.wkt_text.specs.declared.control.Rings.TheVariants.{Shell, Hole, Hollow}
-use Rattle.wkt_text.specs.declared.control.Site.{Site}
-use Rattle.wkt_text.specs.declared.control.Site.TheVariants as site
-use Rattle.wkt_text.specs.declared.control.Step.{Step}
-use Rattle.wkt_text.specs.declared.control.Step.TheVariants.{Start, Tagged, Body, Item, First, Second, Two, Three, After, Full, Done}
-use Rattle.wkt_text.specs.declared.control.Control.{Control}
+use Rattle.wkt_text.specs.declared.state.Role.{Role}
+use Rattle.wkt_text.specs.declared.state.Role.TheVariants.{Head, Deep, Demanded, Further}
+use Rattle.wkt_text.specs.declared.state.Rings.TheVariants.{Shell, Hole, Hollow}
+use Rattle.wkt_text.specs.declared.state.Membership.TheVariants.{Alone, Member}
+use Rattle.wkt_text.specs.declared.state.RingKind.TheVariants as ring
+use Rattle.wkt_text.specs.declared.state.Site.{Site}
+use Rattle.wkt_text.specs.declared.state.Site.TheVariants as site
+use Rattle.wkt_text.specs.declared.state.Step.{Step}
+use Rattle.wkt_text.specs.declared.state.Step.TheVariants.{Start, Tagged, Body, Item, First, Second, Two, Three, After, Full, Done}
+use Rattle.wkt_text.specs.declared.state.Control.{Control}
 use Rattle.wkt_text.specs.declared.control.WktKind.{WktKind}
 use Rattle.wkt_text.specs.declared.control.WktKind.TheVariants.{Syntax, UnknownType, Ragged}
 use Rattle.wkt_text.specs.declared.build.Build.{Build}
 use Rattle.wkt_text.specs.Machine.{Next, advance, advance_by, at_after, at_body, refused_kind, refused_by, step_ended, second_role}
 use Rattle.wkt_text.specs.Grammar.{Slot, slot}
-use Rattle.wkt_text.specs.Rules.{act, start_build}
+use Rattle.wkt_text.specs.Building.{act, start_build}
 use Rattle.wkt_text.specs.Reading.{IsTaken, IsFaulty}
 use Rattle.wkt_text.specs.Faults.{tokens_of, builds, IsRight, Continues, IsRefused, IsExpected, IsWord, IsOrdinate, IsAfterThird, IsUnknownType, IsRagged, HasKind, breaks, unknown_type, ragged, syntax}
 use Rattle.wkt_text.proofs.Parses.{at, start, Run, Goes, run_spelled}
@@ -136,8 +138,8 @@ fact_after step site.Top (suc d) tag token.Close f = ended_not_full d
 fact_after step site.Top d tag other f = tt
 fact_after step site.Point d tag token.Close f = ended_not_full d
 fact_after step site.Point d tag other f = tt
-fact_after step (site.Line false) d tag token.Close f = ended_not_full d
-fact_after step (site.Line true) d tag token.Close f = tt
+fact_after step (site.Line Alone) d tag token.Close f = ended_not_full d
+fact_after step (site.Line Member) d tag token.Close f = tt
 fact_after step (site.Line many) d tag other f = tt
 fact_after step site.Points d tag token.Close f = ended_not_full d
 fact_after step site.Points d tag other f = tt
@@ -147,18 +149,18 @@ fact_after step site.Lines d tag token.Close f = ended_not_full d
 fact_after step site.Lines d tag other f = tt
 fact_after step site.Polygons d tag token.Close f = ended_not_full d
 fact_after step site.Polygons d tag other f = tt
-fact_after step (site.Polygon false Shell) d tag token.Close f = ended_not_full d
-fact_after step (site.Polygon false Hole) d tag token.Close f = ended_not_full d
-fact_after step (site.Polygon false Hollow) d tag token.Close f = ended_not_full d
-fact_after step (site.Polygon true Shell) d tag token.Close f = tt
-fact_after step (site.Polygon true Hole) d tag token.Close f = tt
-fact_after step (site.Polygon true Hollow) d tag token.Close f = tt
+fact_after step (site.Polygon Alone Shell) d tag token.Close f = ended_not_full d
+fact_after step (site.Polygon Alone Hole) d tag token.Close f = ended_not_full d
+fact_after step (site.Polygon Alone Hollow) d tag token.Close f = ended_not_full d
+fact_after step (site.Polygon Member Shell) d tag token.Close f = tt
+fact_after step (site.Polygon Member Hole) d tag token.Close f = tt
+fact_after step (site.Polygon Member Hollow) d tag token.Close f = tt
 fact_after step (site.Polygon many Shell) d tag other f = tt
 fact_after step (site.Polygon many Hole) d tag other f = tt
 fact_after step (site.Polygon many Hollow) d tag other f = tt
-fact_after step (site.Ring many false) d tag token.Close f = tt
-fact_after step (site.Ring many true) d tag token.Close f = tt
-fact_after step (site.Ring many hole) d tag other f = tt
+fact_after step (site.Ring many ring.Shell) d tag token.Close f = tt
+fact_after step (site.Ring many ring.Hole) d tag token.Close f = tt
+fact_after step (site.Ring many kind) d tag other f = tt
 
 fact_body : (step : Step) (kind : TypeWord) (s : Site) (d : ℕ) (tag : Tag) (t : Token) (from_step : Step) → Fact step tag (at_body (at from_step s d tag) kind t)
 fact_body step type.Point s d tag token.Empty f = ended_not_full d
@@ -217,8 +219,8 @@ fact_item (site.Line many) d tag token.Open = tt
 fact_item (site.Line many) d tag other = tt
 fact_item site.Element d tag token.Open = tt
 fact_item site.Element d tag other = tt
-fact_item (site.Ring many hole) d tag token.Open = tt
-fact_item (site.Ring many hole) d tag other = tt
+fact_item (site.Ring many kind) d tag token.Open = tt
+fact_item (site.Ring many kind) d tag other = tt
 
 fact_second : (s : Site) (tag : Tag) → RoleFact (second_role s) Second tag Two
 fact_second site.Point tag = tt

@@ -1,11 +1,13 @@
 pub mod Capped
+pub mod Counted
+pub mod Courses
 pub mod Ends
 pub mod Exact
 pub mod FirstFaults
+pub mod Keeping
 pub mod Parses
 pub mod Progress
 pub mod Shapes
-pub mod Courses
 pub mod Spells
 pub mod TreeFigures
 pub mod Values

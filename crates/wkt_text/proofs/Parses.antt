@@ -1,5 +1,5 @@
 -- What the reader accepts is spelled by a tree: from what follows a token, what follows before it.
-use Rattle.std.proofs.Common.{◌≡◌, ℕ, zero, suc, Bool, true, false, Option, Some, None, List, [], ◌∷◌, ◌⊎◌, inl, inr, refl, sym, ap, subst, ◌∙◌}
+use Rattle.std.proofs.Common.{◌≡◌, ℕ, zero, suc, Option, Some, None, List, [], ◌∷◌, ◌⊎◌, inl, inr, refl, sym, ap, subst, ◌∙◌}
 use Rattle.wkt_text.specs.declared.word.TypeWord.{TypeWord}
 use Rattle.wkt_text.specs.declared.word.TypeWord.TheVariants as type
 use Rattle.wkt_text.specs.declared.word.Tag.{Tag}
@@ -7,14 +7,17 @@ use Rattle.wkt_text.specs.declared.word.Tag.TheVariants.{Plain, Z, M, Zm}
 use Rattle.wkt_text.specs.declared.number.Numeral.{Numeral}
 use Rattle.wkt_text.specs.declared.token.Token.{Token}
 use Rattle.wkt_text.specs.declared.token.Token.TheVariants as token
-use Rattle.wkt_text.specs.declared.control.Role.{Role}
-use Rattle.wkt_text.specs.declared.control.Role.TheVariants.{Head, Mark, Group, PointY, WayY, Demanded, EndLine, EndShell, EndHole, EndArea}
-use Rattle.wkt_text.specs.declared.control.Rings.TheVariants.{Shell, Hole, Hollow}
-use Rattle.wkt_text.specs.declared.control.Site.{Site}
-use Rattle.wkt_text.specs.declared.control.Site.TheVariants as site
-use Rattle.wkt_text.specs.declared.control.Step.{Step}
-use Rattle.wkt_text.specs.declared.control.Step.TheVariants.{Start, Tagged, Body, Item, First, Second, Two, Three, After, Full, Done}
-use Rattle.wkt_text.specs.declared.control.Control.{Control}
+use Rattle.wkt_text.specs.declared.state.Role.{Role}
+use Rattle.wkt_text.specs.declared.state.Role.TheVariants.{Head, Mark, Group, PointY, WayY, Demanded, EndLine, EndShell, EndHole, EndArea}
+use Rattle.wkt_text.specs.declared.state.Rings.TheVariants.{Shell, Hole, Hollow}
+use Rattle.wkt_text.specs.declared.state.Membership.{Membership}
+use Rattle.wkt_text.specs.declared.state.Membership.TheVariants.{Alone, Member}
+use Rattle.wkt_text.specs.declared.state.RingKind.TheVariants as ring
+use Rattle.wkt_text.specs.declared.state.Site.{Site}
+use Rattle.wkt_text.specs.declared.state.Site.TheVariants as site
+use Rattle.wkt_text.specs.declared.state.Step.{Step}
+use Rattle.wkt_text.specs.declared.state.Step.TheVariants.{Start, Tagged, Body, Item, First, Second, Two, Three, After, Full, Done}
+use Rattle.wkt_text.specs.declared.state.Control.{Control}
 use Rattle.wkt_text.specs.Machine.{Next, advance, outer, second_role, step_ended, advance_by, at_after, at_body}
 use Rattle.wkt_text.specs.Grammar.{depth_role, Slot, slot, Ordinate, number, nan, More, Position, Way, empty_way, along, Element, empty_element, bare, bracketed, Surface, empty_surface, hollow, area, empty_many, several, Simple, empty_point, point, line, polygon, points, lines, polygons, Writing, joined, apart, Geometry, simple, empty_collection, collection, Geometries, none, more, ordinate_then, further_then, more_then, position_then, others_then, along_then, gap_then, way_then, element_then, gaps_then, surface_then, type_of_simple, simple_then, geometry_then, geometries_then, tag_of_writing, head_then, spelling}
 
@@ -36,18 +39,18 @@ AfterLines tag d s = (xs : List (Way tag)) × (rest : List Slot) × (s ≡ other
 abbrev AfterPolygons : Tag → ℕ → List Slot → Type 0
 AfterPolygons tag d s = (xs : List (Surface tag)) × (rest : List Slot) × (s ≡ others_then (surface_then Mark) xs (slot token.Close Mark ∷ rest)) × Ended d rest
 
-abbrev UpLine : Bool → Tag → ℕ → List Slot → Type 0
-UpLine false tag d s = Ended d s
-UpLine true tag d s = AfterLines tag d s
+abbrev UpLine : Membership → Tag → ℕ → List Slot → Type 0
+UpLine Alone tag d s = Ended d s
+UpLine Member tag d s = AfterLines tag d s
 
-abbrev UpPolygon : Bool → Tag → ℕ → List Slot → Type 0
-UpPolygon false tag d s = Ended d s
-UpPolygon true tag d s = AfterPolygons tag d s
+abbrev UpPolygon : Membership → Tag → ℕ → List Slot → Type 0
+UpPolygon Alone tag d s = Ended d s
+UpPolygon Member tag d s = AfterPolygons tag d s
 
-abbrev AfterHoles : Bool → Tag → ℕ → List Slot → Type 0
+abbrev AfterHoles : Membership → Tag → ℕ → List Slot → Type 0
 AfterHoles many tag d s = (xs : List (Way tag)) × (rest : List Slot) × (s ≡ others_then (way_then EndHole) xs (slot token.Close EndArea ∷ rest)) × UpPolygon many tag d rest
 
-abbrev AfterHollow : Bool → Tag → ℕ → List Slot → Type 0
+abbrev AfterHollow : Membership → Tag → ℕ → List Slot → Type 0
 AfterHollow many tag d s = (n : ℕ) × (rest : List Slot) × (s ≡ gaps_then n (slot token.Close Mark ∷ rest)) × UpPolygon many tag d rest
 
 abbrev AfterPositions : Tag → Role → (List Slot → Type 0) → List Slot → Type 0
@@ -66,8 +69,8 @@ AfterSite site.Lines tag d s = AfterLines tag d s
 AfterSite (site.Polygon many Shell) tag d s = Unit {0}
 AfterSite (site.Polygon many Hole) tag d s = AfterHoles many tag d s
 AfterSite (site.Polygon many Hollow) tag d s = AfterHollow many tag d s
-AfterSite (site.Ring many false) tag d s = AfterPositions tag EndShell (AfterHoles many tag d) s
-AfterSite (site.Ring many true) tag d s = AfterPositions tag EndHole (AfterHoles many tag d) s
+AfterSite (site.Ring many ring.Shell) tag d s = AfterPositions tag EndShell (AfterHoles many tag d) s
+AfterSite (site.Ring many ring.Hole) tag d s = AfterPositions tag EndHole (AfterHoles many tag d) s
 AfterSite site.Polygons tag d s = AfterPolygons tag d s
 
 abbrev OneOf : {A : Type 0} → (A → List Slot → List Slot) → (List Slot → Type 0) → List Slot → Type 0
@@ -168,8 +171,8 @@ back_after site.Top (suc d) tag other rest step = tt
 back_after site.Point d tag token.Close rest step = λ h. (rest, refl, is_ended d tag rest h)
 back_after site.Point d tag other rest step = tt
 back_after (site.Line many) d tag token.Comma rest step = λ (p, r, e, (ps, r₂, e₂, up)). (p ∷ ps, r₂, put _ (e ∙ ap (position_then WayY p) e₂), up)
-back_after (site.Line false) d tag token.Close rest step = λ h. ([], rest, refl, is_ended d tag rest h)
-back_after (site.Line true) d tag token.Close rest step = λ h. ([], rest, refl, h)
+back_after (site.Line Alone) d tag token.Close rest step = λ h. ([], rest, refl, is_ended d tag rest h)
+back_after (site.Line Member) d tag token.Close rest step = λ h. ([], rest, refl, h)
 back_after (site.Line many) d tag other rest step = tt
 back_after site.Points d tag token.Comma rest step = λ (x, r, e, (xs, r₂, e₂, up)). (x ∷ xs, r₂, put _ (e ∙ ap (element_then x) e₂), up)
 back_after site.Points d tag token.Close rest step = λ h. ([], rest, refl, is_ended d tag rest h)
@@ -185,18 +188,18 @@ back_after site.Polygons d tag other rest step = tt
 back_after (site.Polygon many Shell) d tag token.Close rest step = λ h. tt
 back_after (site.Polygon many Shell) d tag other rest step = tt
 back_after (site.Polygon many Hole) d tag token.Comma rest step = λ (x, r, e, (xs, r₂, e₂, up)). (x ∷ xs, r₂, put _ (e ∙ ap (way_then EndHole x) e₂), up)
-back_after (site.Polygon false Hole) d tag token.Close rest step = λ h. ([], rest, refl, is_ended d tag rest h)
-back_after (site.Polygon true Hole) d tag token.Close rest step = λ h. ([], rest, refl, h)
+back_after (site.Polygon Alone Hole) d tag token.Close rest step = λ h. ([], rest, refl, is_ended d tag rest h)
+back_after (site.Polygon Member Hole) d tag token.Close rest step = λ h. ([], rest, refl, h)
 back_after (site.Polygon many Hole) d tag other rest step = tt
 back_after (site.Polygon many Hollow) d tag token.Comma rest step = λ (r, e, (n, r₂, e₂, up)). (suc n, r₂, put _ (e ∙ put _ e₂), up)
-back_after (site.Polygon false Hollow) d tag token.Close rest step = λ h. (0, rest, refl, is_ended d tag rest h)
-back_after (site.Polygon true Hollow) d tag token.Close rest step = λ h. (0, rest, refl, h)
+back_after (site.Polygon Alone Hollow) d tag token.Close rest step = λ h. (0, rest, refl, is_ended d tag rest h)
+back_after (site.Polygon Member Hollow) d tag token.Close rest step = λ h. (0, rest, refl, h)
 back_after (site.Polygon many Hollow) d tag other rest step = tt
-back_after (site.Ring many false) d tag token.Comma rest step = λ (p, r, e, (ps, r₂, e₂, up)). (p ∷ ps, r₂, put _ (e ∙ ap (position_then WayY p) e₂), up)
-back_after (site.Ring many true) d tag token.Comma rest step = λ (p, r, e, (ps, r₂, e₂, up)). (p ∷ ps, r₂, put _ (e ∙ ap (position_then WayY p) e₂), up)
-back_after (site.Ring many false) d tag token.Close rest step = λ h. ([], rest, refl, h)
-back_after (site.Ring many true) d tag token.Close rest step = λ h. ([], rest, refl, h)
-back_after (site.Ring many hole) d tag other rest step = tt
+back_after (site.Ring many ring.Shell) d tag token.Comma rest step = λ (p, r, e, (ps, r₂, e₂, up)). (p ∷ ps, r₂, put _ (e ∙ ap (position_then WayY p) e₂), up)
+back_after (site.Ring many ring.Hole) d tag token.Comma rest step = λ (p, r, e, (ps, r₂, e₂, up)). (p ∷ ps, r₂, put _ (e ∙ ap (position_then WayY p) e₂), up)
+back_after (site.Ring many ring.Shell) d tag token.Close rest step = λ h. ([], rest, refl, h)
+back_after (site.Ring many ring.Hole) d tag token.Close rest step = λ h. ([], rest, refl, h)
+back_after (site.Ring many kind) d tag other rest step = tt
 
 -- ---- items, positions
 
@@ -212,7 +215,7 @@ back_item site.Lines d tag other rest = tt
 back_item site.Polygons d tag token.Empty rest = λ h. (empty_surface, rest, refl, h)
 back_item site.Polygons d tag token.Open rest = λ h. open_surface h
   where
-    open_surface : ItemOf (site.Polygon true Shell) tag d rest → OneOf (surface_then {tag = tag} Mark) (AfterPolygons tag d) (slot token.Open Mark ∷ rest)
+    open_surface : ItemOf (site.Polygon Member Shell) tag d rest → OneOf (surface_then {tag = tag} Mark) (AfterPolygons tag d) (slot token.Open Mark ∷ rest)
     open_surface (inl (r, e, (n, r₂, e₂, up))) = (hollow n, r₂, put _ (e ∙ put _ e₂), up)
     open_surface (inr (p, ps, r, e, (ws, r₂, e₂, up))) = (area p ps ws, r₂, put _ (e ∙ ap (along_then EndShell p ps) e₂), up)
 back_item site.Polygons d tag other rest = tt
@@ -228,7 +231,7 @@ back_item site.Top d tag t rest = nothing (advance_by Item (at Item site.Top d t
 back_item site.Point d tag t rest = nothing (advance_by Item (at Item site.Point d tag) t) t rest
 back_item (site.Line many) d tag t rest = nothing (advance_by Item (at Item (site.Line many) d tag) t) t rest
 back_item site.Element d tag t rest = nothing (advance_by Item (at Item site.Element d tag) t) t rest
-back_item (site.Ring many hole) d tag t rest = nothing (advance_by Item (at Item (site.Ring many hole) d tag) t) t rest
+back_item (site.Ring many kind) d tag t rest = nothing (advance_by Item (at Item (site.Ring many kind) d tag) t) t rest
 
 back_first : (s : Site) (d : ℕ) (tag : Tag) (t : Token) (rest : List Slot) → Back (advance_by First (at First s d tag) t) (PositionOf s tag d) t rest
 back_first s d tag (token.Number n) rest = λ (y, m, r, e, up). (record { x = n; y = y; more = m }, r, put _ e, up)
@@ -272,10 +275,10 @@ back_three s d Zm other rest = tt
 open_point : (d : ℕ) (tag : Tag) (rest : List Slot) → PositionOf site.Point tag d rest → SimpleOf type.Point tag d (slot token.Open Mark ∷ rest)
 open_point d tag rest (p, r, e, (r₂, e₂, up)) = (point p, r₂, refl, put _ (e ∙ ap (position_then PointY p) e₂), up)
 
-open_line : (d : ℕ) (tag : Tag) (rest : List Slot) → PositionOf (site.Line false) tag d rest → SimpleOf type.LineString tag d (slot token.Open Mark ∷ rest)
+open_line : (d : ℕ) (tag : Tag) (rest : List Slot) → PositionOf (site.Line Alone) tag d rest → SimpleOf type.LineString tag d (slot token.Open Mark ∷ rest)
 open_line d tag rest (p, r, e, (ps, r₂, e₂, up)) = (line (along p ps), r₂, refl, put _ (e ∙ ap (position_then WayY p) e₂), up)
 
-open_polygon : (d : ℕ) (tag : Tag) (rest : List Slot) → ItemOf (site.Polygon false Shell) tag d rest → SimpleOf type.Polygon tag d (slot token.Open Group ∷ rest)
+open_polygon : (d : ℕ) (tag : Tag) (rest : List Slot) → ItemOf (site.Polygon Alone Shell) tag d rest → SimpleOf type.Polygon tag d (slot token.Open Group ∷ rest)
 open_polygon d tag rest (inl (r, e, (n, r₂, e₂, up))) = (polygon (hollow n), r₂, refl, put _ (e ∙ put _ e₂), up)
 open_polygon d tag rest (inr (p, ps, r, e, (ws, r₂, e₂, up))) = (polygon (area p ps ws), r₂, refl, put _ (e ∙ ap (along_then EndShell p ps) e₂), up)
 

@@ -3,14 +3,14 @@ use Rattle.std.proofs.Common.{◌≡◌, ℕ, ◌<◌, true, false, Some, None, 
 use Rattle.std.specs.Char.{is_ascii_alphabetic}
 use Rattle.wkt_text.specs.declared.token.Token.{Token}
 use Rattle.wkt_text.specs.declared.token.Token.TheVariants as token
-use Rattle.wkt_text.specs.declared.control.Role.{Role}
-use Rattle.wkt_text.specs.declared.control.Role.TheVariants.{Deep}
-use Rattle.wkt_text.specs.declared.control.Site.{Site}
+use Rattle.wkt_text.specs.declared.state.Role.{Role}
+use Rattle.wkt_text.specs.declared.state.Role.TheVariants.{Deep}
+use Rattle.wkt_text.specs.declared.state.Site.{Site}
 use Rattle.wkt_text.specs.declared.word.Tag.{Tag}
 use Rattle.wkt_text.specs.declared.word.Tag.TheVariants.{Plain, Z, M, Zm}
-use Rattle.wkt_text.specs.declared.control.Step.{Step}
-use Rattle.wkt_text.specs.declared.control.Step.TheVariants.{Two, Three, Done}
-use Rattle.wkt_text.specs.declared.control.Control.{Control}
+use Rattle.wkt_text.specs.declared.state.Step.{Step}
+use Rattle.wkt_text.specs.declared.state.Step.TheVariants.{Two, Three, Done}
+use Rattle.wkt_text.specs.declared.state.Control.{Control}
 use Rattle.wkt_text.specs.declared.control.WktKind.{WktKind}
 use Rattle.wkt_text.specs.declared.build.Build.{Build}
 use Rattle.wkt_text.specs.Machine.{advance, advance_by, is_done}
@@ -18,7 +18,7 @@ use Rattle.wkt_text.specs.Reading.{IsTaken, IsFaulty, FailsAt}
 use Rattle.wkt_text.specs.Results.{IsFirstFault}
 use Rattle.wkt_text.specs.declared.read.WktFault.{WktFault}
 use Rattle.wkt_text.specs.declared.read.WktFault.TheVariants as fault
-use Rattle.wkt_text.specs.Rules.{act, start_build}
+use Rattle.wkt_text.specs.Building.{IsCounted, act, start_build}
 use Rattle.wkt_text.specs.Tokens.{token_in, is_number_start, lexeme_at, place_of}
 use Rattle.wkt_text.specs.Grammar.{spelling}
 use Rattle.point_set.specs.declared.figure.Figure.{Figure}
@@ -26,6 +26,7 @@ use Rattle.std.proofs.lemmas.List.{append_assoc, append-nil}
 use Rattle.std.proofs.lemmas.Bool.{cases_Bool}
 use Rattle.std.proofs.lemmas.Option.{none-some}
 use Rattle.wkt_text.specs.Faults.{Stands, tokens_of, builds, Reads, IsRight, IsOnlyWhite, FirstFault}
+use Rattle.wkt_text.proofs.Counted.{built_counted}
 use Rattle.wkt_text.proofs.TreeFigures.{built_figure, reads_built}
 use Rattle.wkt_text.proofs.Spells.{spelled_run}
 use Rattle.wkt_text.proofs.Courses.{run_goes, goes_parts, goes_same, builds_front, tokens_split, ok_same}
@@ -103,6 +104,10 @@ so_far_reads scale bytes from place c b s done =
       kept = kept;
       says = built_figure g b kept;
     }
+
+-- What is built so far is counted.
+pub so_far_counted : (scale : ℕ) (bytes : List ℕ) (from place : ℕ) (c : Control) (b : Build) → SoFar scale bytes from place c b → IsCounted b
+so_far_counted scale bytes from place c b s = built_counted s.taken.front b s.taken.kept
 
 -- A type word that is nested too deep is never taken.
 pub deep_stops : (b b' : Build) (r : Role) (t : Token) → r ≡ Deep → act b r t ≡ Ok b' → ⊥

@@ -1,19 +1,23 @@
 -- What a tree spells, the reader takes to the end.
-use Rattle.std.proofs.Common.{◌≡◌, ℕ, zero, suc, Bool, true, false, Option, Some, None, option_map, List, [], ◌∷◌, refl, ap, ◌∙◌}
+use Rattle.std.proofs.Common.{◌≡◌, ℕ, zero, suc, Option, Some, None, option_map, List, [], ◌∷◌, refl, ap, ◌∙◌}
 use Rattle.std.proofs.lemmas.Option.{none-some}
 use Rattle.wkt_text.specs.declared.word.TypeWord.{TypeWord}
 use Rattle.wkt_text.specs.declared.word.TypeWord.TheVariants as type
 use Rattle.wkt_text.specs.declared.word.Tag.{Tag}
 use Rattle.wkt_text.specs.declared.word.Tag.TheVariants.{Plain, Z, M, Zm}
 use Rattle.wkt_text.specs.declared.token.Token.TheVariants as token
-use Rattle.wkt_text.specs.declared.control.Role.{Role}
-use Rattle.wkt_text.specs.declared.control.Role.TheVariants.{Head, Mark, WayY, Demanded, EndLine, EndShell, EndHole, EndArea}
-use Rattle.wkt_text.specs.declared.control.Rings.TheVariants.{Shell, Hole, Hollow}
-use Rattle.wkt_text.specs.declared.control.Site.{Site}
-use Rattle.wkt_text.specs.declared.control.Site.TheVariants as site
-use Rattle.wkt_text.specs.declared.control.Step.{Step}
-use Rattle.wkt_text.specs.declared.control.Step.TheVariants.{Start, Tagged, Body, Item, First, Second, Two, Three, After, Full, Done}
-use Rattle.wkt_text.specs.declared.control.Control.{Control}
+use Rattle.wkt_text.specs.declared.state.Role.{Role}
+use Rattle.wkt_text.specs.declared.state.Role.TheVariants.{Head, Mark, WayY, Demanded, EndLine, EndShell, EndHole, EndArea}
+use Rattle.wkt_text.specs.declared.state.Rings.TheVariants.{Shell, Hole, Hollow}
+use Rattle.wkt_text.specs.declared.state.Membership.{Membership}
+use Rattle.wkt_text.specs.declared.state.Membership.TheVariants.{Alone, Member}
+use Rattle.wkt_text.specs.declared.state.RingKind.{RingKind}
+use Rattle.wkt_text.specs.declared.state.RingKind.TheVariants as ring
+use Rattle.wkt_text.specs.declared.state.Site.{Site}
+use Rattle.wkt_text.specs.declared.state.Site.TheVariants as site
+use Rattle.wkt_text.specs.declared.state.Step.{Step}
+use Rattle.wkt_text.specs.declared.state.Step.TheVariants.{Start, Tagged, Body, Item, First, Second, Two, Three, After, Full, Done}
+use Rattle.wkt_text.specs.declared.state.Control.{Control}
 use Rattle.wkt_text.specs.Machine.{advance, started, opened, second_role, end_role, step_ended, step_tagged, after_comma, after_close}
 use Rattle.wkt_text.specs.Grammar.{depth_role, Slot, slot, Ordinate, number, nan, More, Position, Way, empty_way, along, Element, empty_element, bare, bracketed, Surface, empty_surface, hollow, area, empty_many, several, Simple, empty_point, point, line, polygon, points, lines, polygons, Writing, joined, apart, Geometry, simple, empty_collection, collection, Geometries, none, more, ordinate_then, further_then, more_then, position_then, others_then, along_then, gap_then, way_then, element_then, gaps_then, surface_then, type_of_simple, simple_then, geometry_then, geometries_then, tag_of_writing, head_then, spelling}
 use Rattle.wkt_text.proofs.Parses.{at, start, Run}
@@ -86,52 +90,52 @@ ended_at d tag = at (step_ended d) site.Top d tag
 
 -- ---- lines and rings
 
-run_line : (many : Bool) (d : ℕ) (tag : Tag) (p : Position tag) (ps : List (Position tag)) (rest : List Slot) →
+run_line : (many : Membership) (d : ℕ) (tag : Tag) (p : Position tag) (ps : List (Position tag)) (rest : List Slot) →
     Run (after_close (at After (site.Line many) d tag)) rest →
     Run (at First (site.Line many) d tag) (position_then WayY p (others_then (position_then WayY) ps (slot token.Close EndLine ∷ rest)))
 run_line many d tag p ps rest h =
     run_position (site.Line many) d tag p _
     (run_others (position_then WayY) (site.Line many) d tag First refl (run_position (site.Line many) d tag) ps rest h)
 
-run_ring : (many hole : Bool) (d : ℕ) (tag : Tag) (p : Position tag) (ps : List (Position tag)) (rest : List Slot) →
+run_ring : (many : Membership) (kind : RingKind) (d : ℕ) (tag : Tag) (p : Position tag) (ps : List (Position tag)) (rest : List Slot) →
     Run (at After (site.Polygon many Hole) d tag) rest →
-    Run (at First (site.Ring many hole) d tag)
-    (position_then WayY p (others_then (position_then WayY) ps (slot token.Close (end_role (site.Ring many hole)) ∷ rest)))
-run_ring many hole d tag p ps rest h =
-    run_position (site.Ring many hole) d tag p _
-    (run_others (position_then WayY) (site.Ring many hole) d tag First refl (run_position (site.Ring many hole) d tag) ps rest h)
+    Run (at First (site.Ring many kind) d tag)
+    (position_then WayY p (others_then (position_then WayY) ps (slot token.Close (end_role (site.Ring many kind)) ∷ rest)))
+run_ring many kind d tag p ps rest h =
+    run_position (site.Ring many kind) d tag p _
+    (run_others (position_then WayY) (site.Ring many kind) d tag First refl (run_position (site.Ring many kind) d tag) ps rest h)
 
 run_line_item : (d : ℕ) (tag : Tag) (w : Way tag) (rest : List Slot) → Run (at After site.Lines d tag) rest → Run (at Item site.Lines d tag) (way_then EndLine w rest)
 unfolding advance
 run_line_item d tag empty_way rest h = (at After site.Lines d tag, refl, h)
-run_line_item d tag (along p ps) rest h = (at First (site.Line true) d tag, refl, run_line true d tag p ps rest h)
+run_line_item d tag (along p ps) rest h = (at First (site.Line Member) d tag, refl, run_line Member d tag p ps rest h)
 
-run_hole_item : (many : Bool) (d : ℕ) (tag : Tag) (w : Way tag) (rest : List Slot) → Run (at After (site.Polygon many Hole) d tag) rest →
+run_hole_item : (many : Membership) (d : ℕ) (tag : Tag) (w : Way tag) (rest : List Slot) → Run (at After (site.Polygon many Hole) d tag) rest →
     Run (at Item (site.Polygon many Hole) d tag) (way_then EndHole w rest)
 unfolding advance
 run_hole_item many d tag empty_way rest h = (at After (site.Polygon many Hole) d tag, refl, h)
-run_hole_item many d tag (along p ps) rest h = (at First (site.Ring many true) d tag, refl, run_ring many true d tag p ps rest h)
+run_hole_item many d tag (along p ps) rest h = (at First (site.Ring many ring.Hole) d tag, refl, run_ring many ring.Hole d tag p ps rest h)
 
-run_gaps : (many : Bool) (d : ℕ) (tag : Tag) (n : ℕ) (rest : List Slot) → Run (after_close (at After (site.Polygon many Hollow) d tag)) rest →
+run_gaps : (many : Membership) (d : ℕ) (tag : Tag) (n : ℕ) (rest : List Slot) → Run (after_close (at After (site.Polygon many Hollow) d tag)) rest →
     Run (at After (site.Polygon many Hollow) d tag) (gaps_then n (slot token.Close Mark ∷ rest))
 unfolding advance
 run_gaps many d tag zero rest h = (after_close (at After (site.Polygon many Hollow) d tag), refl, h)
 run_gaps many d tag (suc n) rest h =
     (at Item (site.Polygon many Hollow) d tag, refl, (at After (site.Polygon many Hollow) d tag, refl, run_gaps many d tag n rest h))
 
-run_hollow : (many : Bool) (d : ℕ) (tag : Tag) (n : ℕ) (rest : List Slot) → Run (after_close (at After (site.Polygon many Hollow) d tag)) rest →
+run_hollow : (many : Membership) (d : ℕ) (tag : Tag) (n : ℕ) (rest : List Slot) → Run (after_close (at After (site.Polygon many Hollow) d tag)) rest →
     Run (at Item (site.Polygon many Shell) d tag) (gap_then (gaps_then n (slot token.Close Mark ∷ rest)))
 unfolding advance
 run_hollow many d tag n rest h = (at After (site.Polygon many Hollow) d tag, refl, run_gaps many d tag n rest h)
 
-run_area : (many : Bool) (d : ℕ) (tag : Tag) (p : Position tag) (ps : List (Position tag)) (ws : List (Way tag)) (rest : List Slot) →
+run_area : (many : Membership) (d : ℕ) (tag : Tag) (p : Position tag) (ps : List (Position tag)) (ws : List (Way tag)) (rest : List Slot) →
     Run (after_close (at After (site.Polygon many Hole) d tag)) rest →
     Run (at Item (site.Polygon many Shell) d tag) (along_then EndShell p ps (others_then (way_then EndHole) ws (slot token.Close EndArea ∷ rest)))
 unfolding advance
 run_area many d tag p ps ws rest h = (
-  at First (site.Ring many false) d tag,
+  at First (site.Ring many ring.Shell) d tag,
   refl,
-  run_ring many false d tag p ps _
+  run_ring many ring.Shell d tag p ps _
       (run_others (way_then EndHole) (site.Polygon many Hole) d tag Item refl (run_hole_item many d tag) ws rest h),
 )
 
@@ -139,8 +143,8 @@ run_surface_item : (d : ℕ) (tag : Tag) (x : Surface tag) (rest : List Slot) �
     Run (at Item site.Polygons d tag) (surface_then Mark x rest)
 unfolding advance
 run_surface_item d tag empty_surface rest h = (at After site.Polygons d tag, refl, h)
-run_surface_item d tag (hollow n) rest h = (at Item (site.Polygon true Shell) d tag, refl, run_hollow true d tag n rest h)
-run_surface_item d tag (area p ps ws) rest h = (at Item (site.Polygon true Shell) d tag, refl, run_area true d tag p ps ws rest h)
+run_surface_item d tag (hollow n) rest h = (at Item (site.Polygon Member Shell) d tag, refl, run_hollow Member d tag n rest h)
+run_surface_item d tag (area p ps ws) rest h = (at Item (site.Polygon Member Shell) d tag, refl, run_area Member d tag p ps ws rest h)
 
 run_element_item : (d : ℕ) (tag : Tag) (x : Element tag) (rest : List Slot) → Run (at After site.Points d tag) rest →
     Run (at Item site.Points d tag) (element_then x rest)
@@ -158,10 +162,10 @@ unfolding advance
 run_simple s d tag empty_point rest h = (ended_at d tag, refl, h)
 run_simple s d tag (point p) rest h = (at First site.Point d tag, refl, run_position site.Point d tag p _ (ended_at d tag, refl, h))
 run_simple s d tag (line empty_way) rest h = (ended_at d tag, refl, h)
-run_simple s d tag (line (along p ps)) rest h = (at First (site.Line false) d tag, refl, run_line false d tag p ps rest h)
+run_simple s d tag (line (along p ps)) rest h = (at First (site.Line Alone) d tag, refl, run_line Alone d tag p ps rest h)
 run_simple s d tag (polygon empty_surface) rest h = (ended_at d tag, refl, h)
-run_simple s d tag (polygon (hollow n)) rest h = (at Item (site.Polygon false Shell) d tag, refl, run_hollow false d tag n rest h)
-run_simple s d tag (polygon (area p ps ws)) rest h = (at Item (site.Polygon false Shell) d tag, refl, run_area false d tag p ps ws rest h)
+run_simple s d tag (polygon (hollow n)) rest h = (at Item (site.Polygon Alone Shell) d tag, refl, run_hollow Alone d tag n rest h)
+run_simple s d tag (polygon (area p ps ws)) rest h = (at Item (site.Polygon Alone Shell) d tag, refl, run_area Alone d tag p ps ws rest h)
 run_simple s d tag (points empty_many) rest h = (ended_at d tag, refl, h)
 run_simple s d tag (points (several x xs)) rest h =
     (at Item site.Points d tag, refl, run_element_item d tag x _ (run_others element_then site.Points d tag Item refl (run_element_item d tag) xs rest h))

@@ -14,13 +14,15 @@ use Rattle.wkt_text.specs.declared.word.Tag.TheVariants.{Plain, Z, M, Zm}
 use Rattle.wkt_text.specs.declared.number.Numeral.{Numeral}
 use Rattle.wkt_text.specs.declared.number.Numeral.TheVariants.{Long, Malformed, Fraction, Wide, Whole}
 use Rattle.wkt_text.specs.declared.token.Token.TheVariants as token
-use Rattle.wkt_text.specs.declared.control.Role.{Role}
-use Rattle.wkt_text.specs.declared.control.Role.TheVariants.{Head, Deep, Mark, Group, X, PointY, WayY, Demanded, EndLine, EndShell, EndHole, EndArea}
+use Rattle.wkt_text.specs.declared.state.Role.{Role}
+use Rattle.wkt_text.specs.declared.state.Role.TheVariants.{Head, Deep, Mark, Group, X, PointY, WayY, Demanded, EndLine, EndShell, EndHole, EndArea}
 use Rattle.wkt_text.specs.declared.control.WktKind.{WktKind}
-use Rattle.wkt_text.specs.declared.control.WktKind.TheVariants.{TooMany, LineShort}
+use Rattle.wkt_text.specs.declared.control.WktKind.TheVariants.{TooMany}
 use Rattle.wkt_text.specs.declared.build.Build.{Build}
 use Rattle.wkt_text.specs.Grammar.{Slot, slot, Ordinate, More, Position, empty_way, along, empty_element, bare, bracketed, Surface, empty_surface, hollow, area, Many, empty_many, several, Simple, empty_point, point, line, polygon, points, lines, polygons, Writing, joined, apart, Geometry, simple, empty_collection, collection, Geometries, none, more, ordinate_token, further_then, more_then, position_then, others_then, many_then, along_then, gaps_then, way_then, element_then, surface_then, type_of_simple, simple_then, head_then, geometry_then, geometries_then, spelling}
-use Rattle.wkt_text.specs.Rules.{◌>>=◌, numeral_value, drop_fault, ring_fault, unless, with_x, with_points, with_point, with_position, with_lines, with_areas, act, next_group, empty_figure, start_build}
+use Rattle.wkt_text.specs.Limits.{most_positions, most_depth}
+use Rattle.wkt_text.specs.Rules.{drop_fault, line_fault, ring_fault}
+use Rattle.wkt_text.specs.Building.{◌>>=◌, numeral_value, unless, with_x, with_points, with_point, with_position, with_lines, with_areas, act, next_group, empty_figure, start_build}
 use Rattle.wkt_text.specs.Faults.{builds, Reads}
 use Rattle.wkt_text.specs.Figures.{coordinate_of, point_of, paths_of_way, points_of_element, Region, regions_of_surface, items_of, Part, parts_of, parts_of_all, points_of_part, lines_of_part, regions_of_part, area_of, numbered, figure_of}
 
@@ -43,11 +45,6 @@ kept_if : {A : Type 0} (c : Bool) (r : Result A WktKind) (k : WktKind) (f : A �
     (cond c r (Err k) >>= f) ≡ Ok d → (r >>= f) ≡ Ok d
 kept_if true r k f d h = h
 kept_if false r k f d h = absurd (cc)
-
-kept_unless : {A : Type 0} (c : Bool) (k : WktKind) (r : Result A WktKind) (f : A → Result Build WktKind) (d : Build) →
-    (cond c (Err k) r >>= f) ≡ Ok d → (r >>= f) ≡ Ok d
-kept_unless false k r f d h = h
-kept_unless true k r f d h = absurd (cc)
 
 kept_fault : (o : Option WktKind) (b : Build) (f : Build → Result Build WktKind) (d : Build) → (unless o b >>= f) ≡ Ok d → f b ≡ Ok d
 kept_fault None b f d h = h
@@ -82,7 +79,7 @@ first_on : (m : Numeral) (b : Build) (rest : List Slot) (d : Build) → Leads b 
 unfolding act
 first_on m b rest d h =
     kept_value m (with_x b) (on rest) d
-    (kept_if (nat_lt b.count 1048576) (numeral_value m >>= λ z. Ok (with_x b z)) TooMany (on rest) d h)
+    (kept_if (nat_lt b.count most_positions) (numeral_value m >>= λ z. Ok (with_x b z)) TooMany (on rest) d h)
 
 loose_on : (m : Numeral) (b : Build) (rest : List Slot) (d : Build) → Leads b (slot (token.Number m) PointY ∷ rest) d →
     Leads (with_point b b.x (coordinate_of m)) rest d
@@ -160,7 +157,7 @@ line_on f k empty_way l n rest d h = none_on (λ l n. at (with_lines f l) [] Non
 line_on f k (along p ps) l n rest d h =
     let way = map point_of (p ∷ ps) in
     let (m, h₁) = along_on EndLine p ps (with_lines f l) None [] k n rest d h in
-    (m, kept_unless (nat_lt (length way) 2) LineShort (Ok (at (with_lines f (l ++ way ∷ [])) [] None [] m k)) (on rest) d h₁)
+    (m, kept_fault (line_fault way) (at (with_lines f (l ++ way ∷ [])) [] None [] m k) (on rest) d h₁)
 
 hole_on : {tag : Tag} (f : Figure) (shell : List Pt) (k : ℕ) → Adds (way_then {tag = tag} EndHole) paths_of_way (λ l n. at f [] (Some shell) l n k)
 unfolding act
@@ -304,11 +301,11 @@ mutual
   geometry_on (simple w s) depth f n k rest d h =
       simple_on s f n k rest d (head_on (type_of_simple s) w (at f [] None [] n k) (simple_then s rest) d h)
   geometry_on (empty_collection w) depth f n k rest d h =
-      (n, k, shallow_on (nat_lt depth 32) type.GeometryCollection w (at f [] None [] n k) (slot token.Empty Mark ∷ rest) d h)
+      (n, k, shallow_on (nat_lt depth most_depth) type.GeometryCollection w (at f [] None [] n k) (slot token.Empty Mark ∷ rest) d h)
   geometry_on (collection w g gs) depth f n k rest d h =
       let after = slot token.Close Mark ∷ rest in
       let inside = geometry_then g (suc depth) (geometries_then gs (suc depth) after) in
-      let h₁ = shallow_on (nat_lt depth 32) type.GeometryCollection w (at f [] None [] n k) (slot token.Open Mark ∷ inside) d h in
+      let h₁ = shallow_on (nat_lt depth most_depth) type.GeometryCollection w (at f [] None [] n k) (slot token.Open Mark ∷ inside) d h in
       let (m, j, h₂) = geometry_on g (suc depth) f n k (geometries_then gs (suc depth) after) d h₁ in
       let (m₂, j₂, h₃) = geometries_on gs (suc depth) (with_parts f (parts_of g)) m j after d h₂ in
       (m₂, j₂, rw (with_parts-append f (parts_of g) (parts_of_all gs)) h₃)
@@ -323,7 +320,8 @@ mutual
 
 -- ---- the groups of all areas
 
-last_push : (l : List Area) (x : Area) → next_group (l ++ x ∷ []) ≡ x.group + 1
+-- The group after one more area.
+pub last_push : (l : List Area) (x : Area) → next_group (l ++ x ∷ []) ≡ x.group + 1
 last_push l x =
     let e : length (l ++ x ∷ []) - 1 ≡ length l = rw (length_push l x) (omega arith) in
     let i = slice_get_read (l ++ x ∷ []) (length l + 1) (length l) x (sym (length_push l x)) (omega arith) (sym (get_or_push l x x (length l) refl)) in

@@ -5,14 +5,14 @@ use Rattle.wkt_text.specs.Bytes.{is_white}
 use Rattle.point_set.specs.declared.figure.Figure.{Figure}
 use Rattle.wkt_text.specs.declared.token.Token.{Token}
 use Rattle.wkt_text.specs.declared.token.Token.TheVariants as token
-use Rattle.wkt_text.specs.declared.control.Role.{Role}
-use Rattle.wkt_text.specs.declared.control.Role.TheVariants.{Head, Demanded, Further}
+use Rattle.wkt_text.specs.declared.state.Role.{Role}
+use Rattle.wkt_text.specs.declared.state.Role.TheVariants.{Head, Demanded, Further}
 use Rattle.wkt_text.specs.declared.control.WktKind.{WktKind}
 use Rattle.wkt_text.specs.declared.control.WktKind.TheVariants.{Syntax, UnknownType, Ragged}
 use Rattle.wkt_text.specs.declared.build.Build.{Build}
 use Rattle.wkt_text.specs.Grammar.{Slot, Geometry, spelling}
 use Rattle.wkt_text.specs.Figures.{figure_of}
-use Rattle.wkt_text.specs.Rules.{◌>>=◌, act, start_build}
+use Rattle.wkt_text.specs.Building.{◌>>=◌, act, start_build}
 use Rattle.wkt_text.specs.Tokens.{lexeme_at}
 
 -- These tokens stand in the bytes, one after the other, from a place on up to another.

@@ -8,8 +8,9 @@ use Rattle.wkt_text.specs.declared.word.Tag.TheVariants.{Plain, Z, M, Zm}
 use Rattle.wkt_text.specs.declared.number.Numeral.{Numeral}
 use Rattle.wkt_text.specs.declared.token.Token.{Token}
 use Rattle.wkt_text.specs.declared.token.Token.TheVariants as token
-use Rattle.wkt_text.specs.declared.control.Role.{Role}
-use Rattle.wkt_text.specs.declared.control.Role.TheVariants.{Head, Deep, Mark, Group, X, PointY, WayY, Demanded, Further, EndLine, EndShell, EndHole, EndArea}
+use Rattle.wkt_text.specs.declared.state.Role.{Role}
+use Rattle.wkt_text.specs.declared.state.Role.TheVariants.{Head, Deep, Mark, Group, X, PointY, WayY, Demanded, Further, EndLine, EndShell, EndHole, EndArea}
+use Rattle.wkt_text.specs.Limits.{most_depth}
 
 -- A token with what it is for.
 abbrev pub Slot : Type 0
@@ -174,7 +175,7 @@ head_then role kind (apart t) rest = slot (token.Type kind Plain) role ∷ slot 
 
 -- The purpose of the type word of a collection in so many others: 32 may be nested.
 abbrev pub depth_role : ℕ → Role
-depth_role depth = if nat_lt depth 32 then Head else Deep
+depth_role depth = if nat_lt depth most_depth then Head else Deep
 
 -- A geometry in so many collections, and further geometries, each after a comma.
 abbrev mutual

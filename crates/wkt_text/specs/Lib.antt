@@ -1,7 +1,9 @@
+pub mod Building
 pub mod Bytes
 pub mod Faults
 pub mod Figures
 pub mod Grammar
+pub mod Limits
 pub mod Machine
 pub mod Numbers
 pub mod Reading
