@@ -8,13 +8,13 @@ use Rattle.wkt_text.specs.declared.token.Token.{Token}
 use Rattle.wkt_text.specs.declared.state.Role.{Role}
 use Rattle.wkt_text.specs.declared.state.Role.TheVariants as role
 use Rattle.wkt_text.specs.declared.build.Build.{Build}
-use Rattle.wkt_text.specs.Grammar.{Slot}
+use Rattle.wkt_text.proofs.Moves.{Move, tokens_in}
 use Rattle.wkt_text.specs.Limits.{most_positions}
 use Rattle.wkt_text.specs.Rules.{drop_fault, ends_meet, line_fault, ring_fault}
 use Rattle.wkt_text.specs.Building.{IsCounted, begun, shells, act_by, start_build, with_x, with_point, with_position, with_line, with_shell, with_hole, with_area}
-use Rattle.wkt_text.specs.Faults.{tokens_of, builds}
 use Rattle.wkt_text.proofs.Keeping.{Holds, AllTokens, holds_if, holds_value, holds_unless, ring_tests, kept_along}
-use Rattle.wkt_text.proofs.TreeFigures.{last_push}
+use Rattle.wkt_text.proofs.Courses.{builds}
+use Rattle.wkt_text.proofs.Groups.{last_push}
 
 counted_start : IsCounted start_build
 counted_start = record { group = omega arith; next = omega arith; areas = omega arith; most = omega arith }
@@ -90,5 +90,5 @@ any_tokens [] = tt
 any_tokens (t ∷ ts) = (tt, any_tokens ts)
 
 -- What tokens build is counted.
-pub built_counted : (slots : List Slot) (b : Build) → builds start_build slots ≡ Ok b → IsCounted b
-built_counted slots b e = kept_along IsCounted (λ t. Unit {0}) counted_by slots start_build b counted_start (any_tokens (tokens_of slots)) e
+pub built_counted : (moves : List Move) (b : Build) → builds start_build moves ≡ Ok b → IsCounted b
+built_counted moves b e = kept_along IsCounted (λ t. Unit {0}) counted_by moves start_build b counted_start (any_tokens (tokens_in moves)) e

@@ -17,14 +17,14 @@ use Rattle.wkt_text.specs.declared.state.Step.{Step}
 use Rattle.wkt_text.specs.declared.state.Step.TheVariants.{Start, Tagged, Body, Item, First, Second, Two, Three, After, Full, Done}
 use Rattle.wkt_text.specs.declared.state.Control.{Control}
 use Rattle.wkt_text.specs.Machine.{advance, step_ended}
-use Rattle.wkt_text.specs.Grammar.{Slot, slot}
+use Rattle.wkt_text.proofs.Moves.{Move, move}
 use Rattle.wkt_text.proofs.Parses.{at, Run}
 
 abbrev pub Ends : Control → Type 0
-Ends c = (slots : List Slot) × Run c slots
+Ends c = (moves : List Move) × Run c moves
 
 by : {c c' : Control} (t : Token) (r : Role) → advance c t ≡ Some (r, c') → Ends c' → Ends c
-by {c} {c'} t r e (slots, h) = (slot t r ∷ slots, (c', e, h))
+by {c} {c'} t r e (moves, h) = (move t r ∷ moves, (c', e, h))
 
 ends_ended : (d : ℕ) (tag : Tag) → Ends (at (step_ended d) site.Top d tag)
 unfolding advance
@@ -53,9 +53,9 @@ ends_after (site.Ring many kind) d tag = by token.Close _ refl (ends_polygon man
 
 ends_full : (s : Site) (d : ℕ) (tag : Tag) → Ends (at Full s d tag)
 unfolding advance
-ends_full s d tag = let (slots, h) = ends_after s d tag in go slots h
+ends_full s d tag = let (moves, h) = ends_after s d tag in go moves h
   where
-    go : (slots : List Slot) → Run (at After s d tag) slots → Ends (at Full s d tag)
+    go : (moves : List Move) → Run (at After s d tag) moves → Ends (at Full s d tag)
     go [] e = absurd (cc)
     go (x ∷ rest) h = (x ∷ rest, h)
 

@@ -7,10 +7,9 @@ use Rattle.wkt_text.specs.declared.state.Role.{Role}
 use Rattle.wkt_text.specs.declared.control.WktKind.{WktKind}
 use Rattle.wkt_text.specs.declared.control.WktKind.TheVariants.{RingShort, RingOpen}
 use Rattle.wkt_text.specs.declared.build.Build.{Build}
-use Rattle.wkt_text.specs.Grammar.{Slot}
+use Rattle.wkt_text.proofs.Moves.{Move, tokens_in}
 use Rattle.wkt_text.specs.Building.{◌>>=◌, place_value, unless, act, act_by}
-use Rattle.wkt_text.specs.Faults.{tokens_of, builds}
-use Rattle.wkt_text.proofs.Courses.{ok_same}
+use Rattle.wkt_text.proofs.Courses.{builds, ok_same}
 
 -- What is built, if anything, has a property.
 abbrev pub Holds : (Build → Type 0) → Result Build WktKind → Type 0
@@ -55,7 +54,7 @@ held P (Err k) f d h e = absurd (cc)
 -- A property that each token of a kind keeps is kept along all of them.
 pub kept_along : (P : Build → Type 0) (Q : Token → Type 0) →
     ((b : Build) (r : Role) (t : Token) → P b → Q t → Holds P (act_by b r t)) →
-    (slots : List Slot) (b d : Build) → P b → AllTokens Q (tokens_of slots) → builds b slots ≡ Ok d → P d
+    (moves : List Move) (b d : Build) → P b → AllTokens Q (tokens_in moves) → builds b moves ≡ Ok d → P d
 unfolding act
 kept_along P Q step [] b d h q e = subst P (ok_same e) h
 kept_along P Q step (x ∷ rest) b d h (q, qs) e =

@@ -28,9 +28,10 @@ use Rattle.wkt_text.specs.Words.{tag_of, type_of}
 use Rattle.wkt_text.specs.Numbers.{signed, size_of, ratio_of, is_minus, is_formed, numeral_of}
 use Rattle.wkt_text.specs.Numbers as numbers
 use Rattle.wkt_text.specs.Tokens.{tag_token, type_token, is_name, word_token, word_in, number_in, is_number_start, mark, token_in, place_of, lexeme_at}
-use Rattle.wkt_text.specs.Grammar.{spelling}
-use Rattle.wkt_text.specs.Faults.{Stands, tokens_of, Reads}
-use Rattle.wkt_text.proofs.TreeFigures.{reads_built}
+use Rattle.wkt_text.specs.Faults.{Stands, Reads}
+use Rattle.wkt_text.specs.Rules.{tokens_of}
+use Rattle.wkt_text.specs.Spelling.{spelling}
+use Rattle.wkt_text.proofs.Progress.{reads_whole}
 use Rattle.wkt_text.proofs.Keeping.{Holds, AllTokens, holds_if, holds_value, holds_unless, ring_tests, kept_along}
 use Rattle.std.specs.Char.{is_ascii_alphabetic}
 use Rattle.wkt_text.specs.declared.build.Build.{Build}
@@ -316,5 +317,7 @@ stands_near scale bytes (t ∷ ts) from last (e, h) =
 -- The figure that a text says is well shaped.
 pub reads_shaped : (scale : ℕ) (bytes : List ℕ) (from : ℕ) (figure : Figure) (last : ℕ) → Reads scale bytes from figure last → IsWellShaped figure
 reads_shaped scale bytes from figure last r =
-    subst IsWellShaped (sym (reads_built scale bytes from figure last r)) (built_shaped r.build (kept_along IsBuilt IsTokenNear good_act (spelling r.geometry) start_build r.build built_start
-    (stands_near scale bytes (tokens_of (spelling r.geometry)) from last r.stands) r.kept))
+    let w = reads_whole scale bytes from figure last r in
+    let near = subst (AllTokens IsTokenNear) (sym w.taken.tokens) (stands_near scale bytes (tokens_of (spelling r.geometry)) from last r.stands) in
+    let built = kept_along IsBuilt IsTokenNear good_act w.taken.front start_build w.build built_start near w.taken.kept in
+    subst IsWellShaped (sym w.says) (built_shaped w.build built)

@@ -9,5 +9,6 @@ pub mod Numbers
 pub mod Reading
 pub mod Results
 pub mod Rules
+pub mod Spelling
 pub mod Tokens
 pub mod Words

@@ -1,5 +1,5 @@
 -- How the reader goes from token to token. Nothing that the crate promises is said by these words: see Grammar and Faults.
-use Rattle.std.specs.Prelude.{ℕ, zero, suc, Bool, true, false, Option, Some, None, option_map}
+use Rattle.std.specs.Prelude.{ℕ, zero, suc, nat_lt, Bool, true, false, if◌then◌else◌, Option, Some, None, option_map}
 use Rattle.wkt_text.specs.declared.word.TypeWord.{TypeWord}
 use Rattle.wkt_text.specs.declared.word.TypeWord.TheVariants as type
 use Rattle.wkt_text.specs.declared.word.Tag.{Tag}
@@ -7,7 +7,7 @@ use Rattle.wkt_text.specs.declared.word.Tag.TheVariants.{Plain, Z, M, Zm}
 use Rattle.wkt_text.specs.declared.token.Token.{Token}
 use Rattle.wkt_text.specs.declared.token.Token.TheVariants as token
 use Rattle.wkt_text.specs.declared.state.Role.{Role}
-use Rattle.wkt_text.specs.declared.state.Role.TheVariants.{Head, Mark, Group, X, PointY, WayY, Demanded, Further, EndLine, EndShell, EndHole, EndArea}
+use Rattle.wkt_text.specs.declared.state.Role.TheVariants.{Head, Deep, Mark, Group, X, PointY, WayY, Demanded, Further, EndLine, EndShell, EndHole, EndArea}
 use Rattle.wkt_text.specs.declared.state.Rings.TheVariants.{Shell, Hole, Hollow}
 use Rattle.wkt_text.specs.declared.state.Membership.TheVariants.{Alone, Member}
 use Rattle.wkt_text.specs.declared.state.RingKind.TheVariants as ring
@@ -17,7 +17,7 @@ use Rattle.wkt_text.specs.declared.state.Step.{Step}
 use Rattle.wkt_text.specs.declared.state.Step.TheVariants.{Start, Tagged, Body, Item, First, Second, Two, Three, After, Full, Done}
 use Rattle.wkt_text.specs.declared.state.Control.{Control}
 use Rattle.wkt_text.specs.declared.control.WktKind.{WktKind}
-use Rattle.wkt_text.specs.Grammar.{depth_role}
+use Rattle.wkt_text.specs.Limits.{most_depth}
 use Rattle.wkt_text.specs.declared.control.WktKind.TheVariants.{Syntax, UnknownType, Ragged}
 
 -- What a token is for, and where the reader is after it; None where the token isn't allowed.
@@ -44,6 +44,10 @@ step_tagged kind Plain = Tagged kind
 step_tagged kind Z = Body kind
 step_tagged kind M = Body kind
 step_tagged kind Zm = Body kind
+
+-- The role of the type word of a collection in so many others.
+abbrev pub depth_role : ℕ → Role
+depth_role depth = if nat_lt depth most_depth then Head else Deep
 
 abbrev pub started : Control → TypeWord → Tag → Role × Control
 started c type.GeometryCollection tag =
