@@ -1,5 +1,5 @@
 -- From everywhere the reader can come to an end.
-use Rattle.std.proofs.Common.{◌≡◌, ℕ, zero, suc, Bool, true, false, Some, List, [], ◌∷◌, refl}
+use Rattle.std.proofs.Common.{◌≡◌, ℕ, zero, suc, Some, List, [], ◌∷◌, refl}
 use Rattle.wkt_text.specs.declared.word.TypeWord.{TypeWord}
 use Rattle.wkt_text.specs.declared.word.TypeWord.TheVariants as type
 use Rattle.wkt_text.specs.declared.word.Tag.{Tag}
@@ -7,53 +7,55 @@ use Rattle.wkt_text.specs.declared.word.Tag.TheVariants.{Plain, Z, M, Zm}
 use Rattle.wkt_text.specs.declared.number.Numeral.TheVariants.{Long}
 use Rattle.wkt_text.specs.declared.token.Token.{Token}
 use Rattle.wkt_text.specs.declared.token.Token.TheVariants as token
-use Rattle.wkt_text.specs.declared.control.Role.{Role}
-use Rattle.wkt_text.specs.declared.control.Rings.TheVariants.{Hole}
-use Rattle.wkt_text.specs.declared.control.Site.{Site}
-use Rattle.wkt_text.specs.declared.control.Site.TheVariants as site
-use Rattle.wkt_text.specs.declared.control.Step.{Step}
-use Rattle.wkt_text.specs.declared.control.Step.TheVariants.{Start, Tagged, Body, Item, First, Second, Two, Three, After, Full, Done}
-use Rattle.wkt_text.specs.declared.control.Control.{Control}
+use Rattle.wkt_text.specs.declared.state.Role.{Role}
+use Rattle.wkt_text.specs.declared.state.Rings.TheVariants.{Hole}
+use Rattle.wkt_text.specs.declared.state.Membership.{Membership}
+use Rattle.wkt_text.specs.declared.state.Membership.TheVariants.{Alone, Member}
+use Rattle.wkt_text.specs.declared.state.Site.{Site}
+use Rattle.wkt_text.specs.declared.state.Site.TheVariants as site
+use Rattle.wkt_text.specs.declared.state.Step.{Step}
+use Rattle.wkt_text.specs.declared.state.Step.TheVariants.{Start, Tagged, Body, Item, First, Second, Two, Three, After, Full, Done}
+use Rattle.wkt_text.specs.declared.state.Control.{Control}
 use Rattle.wkt_text.specs.Machine.{advance, step_ended}
-use Rattle.wkt_text.specs.Grammar.{Slot, slot}
+use Rattle.wkt_text.proofs.Moves.{Move, move}
 use Rattle.wkt_text.proofs.Parses.{at, Run}
 
 abbrev pub Ends : Control → Type 0
-Ends c = (slots : List Slot) × Run c slots
+Ends c = (moves : List Move) × Run c moves
 
 by : {c c' : Control} (t : Token) (r : Role) → advance c t ≡ Some (r, c') → Ends c' → Ends c
-by {c} {c'} t r e (slots, h) = (slot t r ∷ slots, (c', e, h))
+by {c} {c'} t r e (moves, h) = (move t r ∷ moves, (c', e, h))
 
 ends_ended : (d : ℕ) (tag : Tag) → Ends (at (step_ended d) site.Top d tag)
 unfolding advance
 ends_ended zero tag = ([], refl)
 ends_ended (suc d) tag = by token.Close _ refl (ends_ended d tag)
 
-ends_polygon : (many : Bool) (d : ℕ) (tag : Tag) → Ends (at After (site.Polygon many Hole) d tag)
+ends_polygon : (many : Membership) (d : ℕ) (tag : Tag) → Ends (at After (site.Polygon many Hole) d tag)
 unfolding advance
-ends_polygon false d tag = by token.Close _ refl (ends_ended d tag)
-ends_polygon true d tag = by token.Close _ refl (by token.Close _ refl (ends_ended d tag))
+ends_polygon Alone d tag = by token.Close _ refl (ends_ended d tag)
+ends_polygon Member d tag = by token.Close _ refl (by token.Close _ refl (ends_ended d tag))
 
 ends_after : (s : Site) (d : ℕ) (tag : Tag) → Ends (at After s d tag)
 unfolding advance
 ends_after site.Top zero tag = by token.Close _ refl ([], refl)
 ends_after site.Top (suc d) tag = by token.Close _ refl (ends_ended d tag)
 ends_after site.Point d tag = by token.Close _ refl (ends_ended d tag)
-ends_after (site.Line false) d tag = by token.Close _ refl (ends_ended d tag)
-ends_after (site.Line true) d tag = by token.Close _ refl (by token.Close _ refl (ends_ended d tag))
+ends_after (site.Line Alone) d tag = by token.Close _ refl (ends_ended d tag)
+ends_after (site.Line Member) d tag = by token.Close _ refl (by token.Close _ refl (ends_ended d tag))
 ends_after site.Points d tag = by token.Close _ refl (ends_ended d tag)
 ends_after site.Element d tag = by token.Close _ refl (by token.Close _ refl (ends_ended d tag))
 ends_after site.Lines d tag = by token.Close _ refl (ends_ended d tag)
 ends_after site.Polygons d tag = by token.Close _ refl (ends_ended d tag)
-ends_after (site.Polygon false rings) d tag = by token.Close _ refl (ends_ended d tag)
-ends_after (site.Polygon true rings) d tag = by token.Close _ refl (by token.Close _ refl (ends_ended d tag))
-ends_after (site.Ring many hole) d tag = by token.Close _ refl (ends_polygon many d tag)
+ends_after (site.Polygon Alone rings) d tag = by token.Close _ refl (ends_ended d tag)
+ends_after (site.Polygon Member rings) d tag = by token.Close _ refl (by token.Close _ refl (ends_ended d tag))
+ends_after (site.Ring many kind) d tag = by token.Close _ refl (ends_polygon many d tag)
 
 ends_full : (s : Site) (d : ℕ) (tag : Tag) → Ends (at Full s d tag)
 unfolding advance
-ends_full s d tag = let (slots, h) = ends_after s d tag in go slots h
+ends_full s d tag = let (moves, h) = ends_after s d tag in go moves h
   where
-    go : (slots : List Slot) → Run (at After s d tag) slots → Ends (at Full s d tag)
+    go : (moves : List Move) → Run (at After s d tag) moves → Ends (at Full s d tag)
     go [] e = absurd (cc)
     go (x ∷ rest) h = (x ∷ rest, h)
 

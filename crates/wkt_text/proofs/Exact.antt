@@ -1,5 +1,5 @@
 -- A text has one answer: white space alone, one reading, or one first fault.
-use Rattle.std.proofs.Common.{◌≡◌, ℕ, suc, ◌+◌, Bool, true, Result, Err, List, [], ◌∷◌, ◌++◌, ◌⊎◌, inl, inr, length, drop, refl, sym, ap, subst, ◌∙◌, arith, length-drop}
+use Rattle.std.proofs.Common.{◌≡◌, ℕ, suc, ◌+◌, Bool, true, Err, List, [], ◌∷◌, ◌++◌, ◌⊎◌, inl, inr, length, drop, refl, sym, ap, subst, ◌∙◌, arith, length-drop}
 use Rattle.std.specs.List.{list_all, prefix_len}
 use Rattle.std.proofs.lemmas.Bool.{and_parts}
 use Rattle.std.proofs.lemmas.List.{append-nil, drop_all}
@@ -12,23 +12,26 @@ use Rattle.wkt_text.specs.declared.word.TypeWord.TheVariants as type
 use Rattle.wkt_text.specs.declared.word.Tag.{Tag}
 use Rattle.wkt_text.specs.declared.token.Token.{Token}
 use Rattle.wkt_text.specs.declared.token.Token.TheVariants as token
-use Rattle.wkt_text.specs.declared.control.Role.{Role}
-use Rattle.wkt_text.specs.declared.control.Role.TheVariants.{Head, Mark}
-use Rattle.wkt_text.specs.declared.control.Control.{Control}
+use Rattle.wkt_text.specs.declared.state.Control.{Control}
 use Rattle.wkt_text.specs.declared.control.WktKind.{WktKind}
 use Rattle.wkt_text.specs.declared.build.Build.{Build}
 use Rattle.wkt_text.specs.declared.read.Parsed.{Parsed}
 use Rattle.wkt_text.specs.declared.read.WktFault.{WktFault}
 use Rattle.wkt_text.specs.declared.read.WktFault.TheVariants as fault
 use Rattle.wkt_text.specs.Tokens.{token_in, lexeme_at}
-use Rattle.wkt_text.specs.Rules.{act}
-use Rattle.wkt_text.specs.Grammar.{depth_role, Slot, Writing, joined, apart, Geometry, simple, empty_collection, collection, type_of_simple, simple_then, gap_then, slot, geometry_then, geometries_then, head_then, spelling}
-use Rattle.wkt_text.specs.Faults.{Stands, tokens_of, Reads, IsRight, IsOnlyWhite, HasKind, breaks, unknown_type, ragged, syntax, FirstFault}
+use Rattle.wkt_text.specs.Building.{act}
+use Rattle.wkt_text.specs.Grammar.{Writing, joined, apart, Geometry, simple, empty_collection, collection, type_of_simple}
+use Rattle.wkt_text.specs.Rules.{TokenRule, unruled, nested, Slot, slot, tokens_of}
+use Rattle.wkt_text.specs.Spelling.{simple_then, gap_then, geometry_then, geometries_then, head_then, spelling}
+use Rattle.wkt_text.specs.Faults.{Stands, Reads, IsRight, IsOnlyWhite, IsUnknownType, IsRagged, HasKind, breaks, unknown_type, ragged, syntax, FirstFault}
 use Rattle.wkt_text.specs.Results.{IsFirstFault, IsReadAs, IsFaultAt}
 use Rattle.wkt_text.proofs.Parses.{start, Run}
+use Rattle.wkt_text.proofs.Moves.{course}
+use Rattle.wkt_text.proofs.Alike.{AreAlike, alike, alike_tokens, split_moves}
+use Rattle.wkt_text.proofs.Splits.{kept_front, meets_stop}
 use Rattle.wkt_text.proofs.Spells.{spelled_run}
-use Rattle.wkt_text.proofs.Courses.{goes_split}
-use Rattle.wkt_text.proofs.FirstFaults.{Taken, continues_taken, unknown_not_ragged}
+use Rattle.wkt_text.proofs.Courses.{goes_split, err_same}
+use Rattle.wkt_text.proofs.FirstFaults.{Taken, agrees_so, continues_taken, unknown_not_ragged}
 use Rattle.wkt_text.proofs.Progress.{stands_compare, one_reading, right_front}
 
 -- Where all pass, the front that passes is the whole list.
@@ -44,9 +47,10 @@ white_end scale bytes from white =
     let e = prefix_len-all is_white (drop from bytes) white in
     ap (λ u. (token_in scale u).0) (drop_all (from + prefix_len is_white (drop from bytes)) bytes (omega (arith, e, length-drop from bytes)))
 
-head_first : (role : Role) (kind : TypeWord) (w : Writing) (rest : List Slot) → (t : Tag) × (more : List Token) × (tokens_of (head_then role kind w rest) ≡ token.Type kind t ∷ more)
-head_first role kind (joined t) rest = (t, _, refl)
-head_first role kind (apart t) rest = (_, _, refl)
+head_first : (rule : TokenRule) (kind : TypeWord) (w : Writing) (rest : List Slot) →
+    (t : Tag) × (more : List Token) × (tokens_of (head_then rule kind w rest) ≡ token.Type kind t ∷ more)
+head_first rule kind (joined t) rest = (t, _, refl)
+head_first rule kind (apart t) rest = (_, _, refl)
 
 -- The text of a geometry begins with its type word.
 abbrev pub type_of_geometry : Geometry → TypeWord
@@ -55,10 +59,11 @@ type_of_geometry (empty_collection w) = type.GeometryCollection
 type_of_geometry (collection w g gs) = type.GeometryCollection
 
 pub spelling_first : (g : Geometry) → (t : Tag) × (more : List Token) × (tokens_of (spelling g) ≡ token.Type (type_of_geometry g) t ∷ more)
-spelling_first (simple w b) = head_first Head (type_of_simple b) w (simple_then b [])
-spelling_first (empty_collection w) = head_first (depth_role 0) type.GeometryCollection w (gap_then [])
+spelling_first (simple w b) = head_first unruled (type_of_simple b) w (simple_then b [])
+spelling_first (empty_collection w) = head_first (nested 0) type.GeometryCollection w (gap_then [])
 spelling_first (collection w g gs) =
-    head_first (depth_role 0) type.GeometryCollection w (slot token.Open Mark ∷ geometry_then g 1 (geometries_then gs 1 (slot token.Close Mark ∷ [])))
+    let closed = slot token.Close unruled ∷ [] in
+    head_first (nested 0) type.GeometryCollection w (slot token.Open unruled ∷ geometry_then g 1 (geometries_then gs 1 closed))
 
 pub type_is_no_end : (kind : TypeWord) (t : Tag) → ◌≡◌ {A = Token} token.End (token.Type kind t) → ⊥
 type_is_no_end kind t e = cc
@@ -90,32 +95,46 @@ fault_ends : (ts more us : List Token) (t : Token) → (IsRight (ts ++ t ∷ [])
 fault_ends ts more us t wrong right u same e =
     wrong (subst (λ v. IsRight (ts ++ v ∷ [])) same (right_front ts more u (subst IsRight e right)))
 
-right_whole : (ts : List Token) → IsRight ts → (c : Control) × (b : Build) × Taken ts c b
-right_whole ts r =
-    let (c, g, h) = goes_split r.front r.rest start (subst (λ u. Run start u) r.spelled (spelled_run r.geometry)) in
-    (c, r.build, record { front = r.front; tokens = r.tokens; goes = g; kept = r.kept })
+-- What is right, the reader takes.
+record RightTaken (ts : List Token) : Type 0 where
+  control : Control
+  build : Build
+  taken : Taken ts control build
 
-err_same : {j k : WktKind} → ◌≡◌ {A = Result Build WktKind} (Err j) (Err k) → j ≡ k
-err_same e = cc
+right_whole : (ts : List Token) → IsRight ts → RightTaken ts
+right_whole ts r =
+    let g = r.geometry in
+    let s = split_moves r.front r.rest (course g) (subst (λ u. AreAlike (course g) u) r.spelled (alike g)) in
+    let (c, goes, h) = goes_split s.before s.after start (subst (λ u. Run start u) s.joined (spelled_run g)) in
+    let a = agrees_so g (s.before ++ s.after) (r.front ++ r.rest) s.joined r.spelled in
+    let b = kept_front s.before s.after r.front r.rest a s.alike_before r.kept in
+    record {
+      control = c;
+      build = b.0;
+      taken = record { front = s.before; tokens = alike_tokens s.alike_before ∙ r.tokens; goes = goes; kept = b.1 };
+    }
+
+not_both : (ts : List Token) (t : Token) → IsRight ts → IsUnknownType ts t → IsRagged ts t → ⊥
+not_both ts t right u v = let w = right_whole ts right in unknown_not_ragged ts w.control w.build t w.taken u v
 
 -- A token after right ones has one kind.
 pub one_kind : (ts : List Token) (t : Token) (j k : WktKind) → IsRight ts → HasKind ts t j → HasKind ts t k → j ≡ k
-one_kind ts t j k right (breaks b r n e) (breaks b' r' n' e') =
-    let (c, d, taken) = right_whole ts right in
-    let (c₁, e₁, s₁) = continues_taken ts c d b t r taken n in
-    let (c₂, e₂, s₂) = continues_taken ts c d b' t r' taken n' in
-    let (roles, controls) = some_pair_parts r r' c₁ c₂ (sym e₁ ∙ e₂) in
-    err_same (sym e ∙ ap (λ u. act u r t) (sym s₁ ∙ s₂) ∙ ap (λ u. act b' u t) roles ∙ e')
-one_kind ts t j k right (breaks b r n e) (unknown_type f u) = absurd (f b r n)
-one_kind ts t j k right (breaks b r n e) (ragged f u) = absurd (f b r n)
-one_kind ts t j k right (breaks b r n e) (syntax f u v) = absurd (f b r n)
-one_kind ts t j k right (unknown_type f u) (breaks b r n e) = absurd (f b r n)
-one_kind ts t j k right (ragged f u) (breaks b r n e) = absurd (f b r n)
-one_kind ts t j k right (syntax f u v) (breaks b r n e) = absurd (f b r n)
+one_kind ts t j k right (breaks r n e) (breaks r' n' e') =
+    let w = right_whole ts right in
+    let m = continues_taken ts w.control w.build t r w.taken n in
+    let m' = continues_taken ts w.control w.build t r' w.taken n' in
+    let same = (some_pair_parts m.role m'.role m.control m'.control (sym m.next ∙ m'.next)).0 in
+    err_same (sym (meets_stop m.meets e) ∙ ap (λ u. act w.build u t) same ∙ meets_stop m'.meets e')
+one_kind ts t j k right (breaks r n e) (unknown_type f u) = absurd (f r n)
+one_kind ts t j k right (breaks r n e) (ragged f u) = absurd (f r n)
+one_kind ts t j k right (breaks r n e) (syntax f u v) = absurd (f r n)
+one_kind ts t j k right (unknown_type f u) (breaks r n e) = absurd (f r n)
+one_kind ts t j k right (ragged f u) (breaks r n e) = absurd (f r n)
+one_kind ts t j k right (syntax f u v) (breaks r n e) = absurd (f r n)
 one_kind ts t j k right (unknown_type f u) (unknown_type g v) = refl
-one_kind ts t j k right (unknown_type f u) (ragged g v) = let (c, d, taken) = right_whole ts right in absurd (unknown_not_ragged ts c d t taken u v)
+one_kind ts t j k right (unknown_type f u) (ragged g v) = absurd (not_both ts t right u v)
 one_kind ts t j k right (unknown_type f u) (syntax g v w) = absurd (v u)
-one_kind ts t j k right (ragged f u) (unknown_type g v) = let (c, d, taken) = right_whole ts right in absurd (unknown_not_ragged ts c d t taken v u)
+one_kind ts t j k right (ragged f u) (unknown_type g v) = absurd (not_both ts t right v u)
 one_kind ts t j k right (ragged f u) (ragged g v) = refl
 one_kind ts t j k right (ragged f u) (syntax g v w) = absurd (w u)
 one_kind ts t j k right (syntax f u v) (unknown_type g w) = absurd (u w)

@@ -3,14 +3,14 @@ use Rattle.std.proofs.Common.{◌≡◌, ℕ, ◌<◌, true, false, Some, None, 
 use Rattle.std.specs.Char.{is_ascii_alphabetic}
 use Rattle.wkt_text.specs.declared.token.Token.{Token}
 use Rattle.wkt_text.specs.declared.token.Token.TheVariants as token
-use Rattle.wkt_text.specs.declared.control.Role.{Role}
-use Rattle.wkt_text.specs.declared.control.Role.TheVariants.{Deep}
-use Rattle.wkt_text.specs.declared.control.Site.{Site}
+use Rattle.wkt_text.specs.declared.state.Role.{Role}
+use Rattle.wkt_text.specs.declared.state.Role.TheVariants.{Deep}
+use Rattle.wkt_text.specs.declared.state.Site.{Site}
 use Rattle.wkt_text.specs.declared.word.Tag.{Tag}
 use Rattle.wkt_text.specs.declared.word.Tag.TheVariants.{Plain, Z, M, Zm}
-use Rattle.wkt_text.specs.declared.control.Step.{Step}
-use Rattle.wkt_text.specs.declared.control.Step.TheVariants.{Two, Three, Done}
-use Rattle.wkt_text.specs.declared.control.Control.{Control}
+use Rattle.wkt_text.specs.declared.state.Step.{Step}
+use Rattle.wkt_text.specs.declared.state.Step.TheVariants.{Two, Three, Done}
+use Rattle.wkt_text.specs.declared.state.Control.{Control}
 use Rattle.wkt_text.specs.declared.control.WktKind.{WktKind}
 use Rattle.wkt_text.specs.declared.build.Build.{Build}
 use Rattle.wkt_text.specs.Machine.{advance, advance_by, is_done}
@@ -18,18 +18,23 @@ use Rattle.wkt_text.specs.Reading.{IsTaken, IsFaulty, FailsAt}
 use Rattle.wkt_text.specs.Results.{IsFirstFault}
 use Rattle.wkt_text.specs.declared.read.WktFault.{WktFault}
 use Rattle.wkt_text.specs.declared.read.WktFault.TheVariants as fault
-use Rattle.wkt_text.specs.Rules.{act, start_build}
+use Rattle.wkt_text.specs.Building.{IsCounted, act, start_build}
 use Rattle.wkt_text.specs.Tokens.{token_in, is_number_start, lexeme_at, place_of}
-use Rattle.wkt_text.specs.Grammar.{spelling}
+use Rattle.wkt_text.specs.Rules.{tokens_of, KeepRules}
+use Rattle.wkt_text.specs.Spelling.{spelling}
+use Rattle.wkt_text.proofs.Moves.{tokens_in, course}
+use Rattle.wkt_text.proofs.Alike.{alike, alike_tokens}
+use Rattle.wkt_text.proofs.Agree.{agrees}
+use Rattle.wkt_text.proofs.Splits.{built_whole, kept_built, kept_parts}
 use Rattle.point_set.specs.declared.figure.Figure.{Figure}
 use Rattle.std.proofs.lemmas.List.{append_assoc, append-nil}
 use Rattle.std.proofs.lemmas.Bool.{cases_Bool}
 use Rattle.std.proofs.lemmas.Option.{none-some}
-use Rattle.wkt_text.specs.Faults.{Stands, tokens_of, builds, Reads, IsRight, IsOnlyWhite, FirstFault}
-use Rattle.wkt_text.proofs.TreeFigures.{built_figure, reads_built}
+use Rattle.wkt_text.specs.Faults.{Stands, Reads, IsRight, IsOnlyWhite, FirstFault}
+use Rattle.wkt_text.proofs.Counted.{built_counted}
 use Rattle.wkt_text.proofs.Spells.{spelled_run}
-use Rattle.wkt_text.proofs.Courses.{run_goes, goes_parts, goes_same, builds_front, tokens_split, ok_same}
-use Rattle.wkt_text.proofs.Parses.{at, start, Goes, run_spelled, goes_run}
+use Rattle.wkt_text.proofs.Courses.{run_goes, goes_same, builds, tokens_parted, ok_same}
+use Rattle.wkt_text.proofs.Parses.{at, start, run_spelled, goes_run}
 use Rattle.wkt_text.proofs.FirstFaults.{Taken, taken_more, taken_right, right_taken, faulty_wrong, faulty_has_kind}
 
 -- A token that isn't the end has a byte.
@@ -91,18 +96,18 @@ so_far_more scale bytes from place c c' b b' s k = record {
   taken = taken_more s.tokens c c' b b' _ s.taken k;
 }
 
+-- Where the reader has come to the end, a geometry is read.
 pub so_far_reads : (scale : ℕ) (bytes : List ℕ) (from place : ℕ) (c : Control) (b : Build) → SoFar scale bytes from place c b →
     c.step ≡ Done → Reads scale bytes from b.figure place
 so_far_reads scale bytes from place c b s done =
     let (g, e) = run_spelled s.taken.front (goes_run s.taken.front start c s.taken.goes done) in
-    let kept = sym (ap (λ u. builds start_build u) e) ∙ s.taken.kept in
-    record {
-      geometry = g;
-      build = b;
-      stands = subst (λ u. Stands scale bytes from u place) (sym s.taken.tokens ∙ ap tokens_of e) s.stands;
-      kept = kept;
-      says = built_figure g b kept;
-    }
+    let (kept, says) = built_whole (course g) (spelling g) (agrees g) b (sym (ap (λ u. builds start_build u) e) ∙ s.taken.kept) in
+    let same = sym s.taken.tokens ∙ ap tokens_in e ∙ alike_tokens (alike g) in
+    record { geometry = g; stands = subst (λ u. Stands scale bytes from u place) same s.stands; kept = kept; says = says }
+
+-- What is built so far is counted.
+pub so_far_counted : (scale : ℕ) (bytes : List ℕ) (from place : ℕ) (c : Control) (b : Build) → SoFar scale bytes from place c b → IsCounted b
+so_far_counted scale bytes from place c b s = built_counted s.taken.front b s.taken.kept
 
 -- A type word that is nested too deep is never taken.
 pub deep_stops : (b b' : Build) (r : Role) (t : Token) → r ≡ Deep → act b r t ≡ Ok b' → ⊥
@@ -126,25 +131,27 @@ stands_compare scale bytes (t ∷ ts) (u ∷ us) from p q (e, h) (f, k) = go (st
     go (inl (more, g, m)) = inl (more, (λ i. (sym f ∙ e) i ∷ g i), m)
     go (inr (more, g, m)) = inr (more, (λ i. (sym e ∙ f) i ∷ g i), m)
 
--- What is read was taken to its end.
-pub record Whole (ts : List Token) (b : Build) : Type 0 where
+-- What is read was taken to its end, and this figure was built.
+pub record Whole (ts : List Token) (figure : Figure) : Type 0 where
   pub control : Control
-  pub taken : Taken ts control b
+  pub build : Build
+  pub taken : Taken ts control build
   pub done : control.step ≡ Done
+  pub says : figure ≡ build.figure
 
 pub reads_whole : (scale : ℕ) (bytes : List ℕ) (from : ℕ) (figure : Figure) (last : ℕ) (r : Reads scale bytes from figure last) →
-    Whole (tokens_of (spelling r.geometry)) r.build
+    Whole (tokens_of (spelling r.geometry)) figure
 reads_whole scale bytes from figure last r =
-    let (c, g, done) = run_goes (spelling r.geometry) start (spelled_run r.geometry) in
-    record { control = c; taken = record { front = spelling r.geometry; tokens = refl; goes = g; kept = r.kept }; done = done }
-
--- The front of what is taken is taken.
-pub taken_front : (ts more : List Token) (c : Control) (b : Build) → Taken (ts ++ more) c b → (d : Control) × (e : Build) × Taken ts d e × (IsRight (ts ++ more))
-taken_front ts more c b k =
-    let (f, g, joined, same) = tokens_split k.front ts more k.tokens in
-    let (d, h, rest) = goes_parts f g start c (subst (λ u. Goes start u c) joined k.goes) in
-    let (e, kept, more_kept) = builds_front f g start_build b (ap (λ u. builds start_build u) (sym joined) ∙ k.kept) in
-    (d, e, record { front = f; tokens = same; goes = h; kept = kept }, taken_right (ts ++ more) c b k)
+    let g = r.geometry in
+    let (c, goes, done) = run_goes (course g) start (spelled_run g) in
+    let all = kept_built (course g) (spelling g) (agrees g) r.kept in
+    record {
+      control = c;
+      build = all.build;
+      taken = record { front = course g; tokens = alike_tokens (alike g); goes = goes; kept = all.built };
+      done = done;
+      says = r.says ∙ sym all.last;
+    }
 
 -- After the end nothing is taken.
 done_takes_none : (c c' : Control) (t : Token) (r : Role) → c.step ≡ Done → advance c t ≡ Some (r, c') → ⊥
@@ -159,79 +166,89 @@ taken_same ts c d b e k l =
 -- The first of more tokens.
 pub right_front : (ts more : List Token) (t : Token) → IsRight (ts ++ t ∷ more) → IsRight (ts ++ t ∷ [])
 right_front ts more t r =
-    let (f, g, joined, same) = tokens_split r.front (ts ++ t ∷ []) more (r.tokens ∙ sym (append_assoc ts (t ∷ []) more)) in
-    let (e, kept, more_kept) = builds_front f g start_build r.build (ap (λ u. builds start_build u) (sym joined) ∙ r.kept) in
+    let p = tokens_parted r.front (ts ++ t ∷ []) more (r.tokens ∙ sym (append_assoc ts (t ∷ []) more)) in
     record {
       geometry = r.geometry;
-      front = f;
-      rest = g ++ r.rest;
-      build = e;
-      spelled = r.spelled ∙ ap (λ u. u ++ r.rest) joined ∙ append_assoc f g r.rest;
-      tokens = same;
-      kept = kept;
+      front = p.front;
+      rest = p.rest ++ r.rest;
+      spelled = r.spelled ∙ ap (λ u. u ++ r.rest) p.joined ∙ append_assoc p.front p.rest r.rest;
+      tokens = p.tokens;
+      kept = (kept_parts p.front p.rest 0 (subst (KeepRules 0) p.joined r.kept)).0;
     }
 
 -- A list of tokens that is whole goes no further.
-whole_ends : (ts more : List Token) (b d : Build) (c : Control) → Whole ts b → Taken (ts ++ more) c d → more ≡ []
-whole_ends ts [] b d c w k = refl
-whole_ends ts (t ∷ more) b d c w k =
-    let (c', b', n) = right_taken ts w.control b t w.taken (right_front ts more t (taken_right (ts ++ t ∷ more) c d k)) in
+whole_ends : (ts more : List Token) (f : Figure) (c : Control) (d : Build) → Whole ts f → Taken (ts ++ more) c d → more ≡ []
+whole_ends ts [] f c d w k = refl
+whole_ends ts (t ∷ more) f c d w k =
+    let (c', b', n) = right_taken ts w.control w.build t w.taken (right_front ts more t (taken_right (ts ++ t ∷ more) c d k)) in
     absurd (done_takes_none w.control c' t n.role w.done n.next)
 
 -- Two readings are one.
-pub one_reading : (scale : ℕ) (bytes : List ℕ) (from : ℕ) (f g : Figure) (p q : ℕ) → Reads scale bytes from f p → Reads scale bytes from g q → (f ≡ g) × (p ≡ q)
-one_reading scale bytes from f g p q r s =
-    go (stands_compare scale bytes (tokens_of (spelling r.geometry)) (tokens_of (spelling s.geometry)) from p q r.stands s.stands)
+pub one_reading : (scale : ℕ) (bytes : List ℕ) (from : ℕ) (f g : Figure) (p q : ℕ) → Reads scale bytes from f p →
+    Reads scale bytes from g q → (f ≡ g) × (p ≡ q)
+one_reading scale bytes from f g p q r s = go (stands_compare scale bytes ts us from p q r.stands s.stands)
   where
-    w : Whole (tokens_of (spelling r.geometry)) r.build
+    ts : List Token
+    ts = tokens_of (spelling r.geometry)
+
+    us : List Token
+    us = tokens_of (spelling s.geometry)
+
+    w : Whole ts f
     w = reads_whole scale bytes from f p r
 
-    v : Whole (tokens_of (spelling s.geometry)) s.build
+    v : Whole us g
     v = reads_whole scale bytes from g q s
 
-    by_tokens : tokens_of (spelling r.geometry) ≡ tokens_of (spelling s.geometry) → f ≡ g
+    by_tokens : ts ≡ us → f ≡ g
     by_tokens e =
-        reads_built scale bytes from f p r
-        ∙ ap (λ (u : Build). u.figure) (taken_same _ w.control v.control r.build s.build w.taken (subst (λ u. Taken u v.control s.build) (sym e) v.taken)).1
-        ∙ sym (reads_built scale bytes from g q s)
+        let same = taken_same ts w.control v.control w.build v.build w.taken (subst (λ u. Taken u v.control v.build) (sym e) v.taken) in
+        w.says ∙ ap (λ (u : Build). u.figure) same.1 ∙ sym v.says
 
     ends_at : (more : List Token) (a b : ℕ) → more ≡ [] → Stands scale bytes a more b → a ≡ b
     ends_at [] a b e h = h
     ends_at (t ∷ more) a b e h = absurd (cc)
 
-    go : ((more : List Token) × (tokens_of (spelling s.geometry) ≡ tokens_of (spelling r.geometry) ++ more) × Stands scale bytes p more q)
-        ⊎ ((more : List Token) × (tokens_of (spelling r.geometry) ≡ tokens_of (spelling s.geometry) ++ more) × Stands scale bytes q more p) → (f ≡ g) × (p ≡ q)
+    go : ((more : List Token) × (us ≡ ts ++ more) × Stands scale bytes p more q) ⊎ ((more : List Token) × (ts ≡ us ++ more) × Stands scale bytes q more p) →
+        (f ≡ g) × (p ≡ q)
     go (inl (more, e, h)) =
-        let none = whole_ends _ more r.build s.build v.control w (subst (λ u. Taken u v.control s.build) e v.taken) in
-        (by_tokens (sym (e ∙ ap (λ u. tokens_of (spelling r.geometry) ++ u) none ∙ append-nil _)), ends_at more p q none h)
+        let none = whole_ends ts more f v.control v.build w (subst (λ u. Taken u v.control v.build) e v.taken) in
+        (by_tokens (sym (e ∙ ap (λ u. ts ++ u) none ∙ append-nil ts)), ends_at more p q none h)
     go (inr (more, e, h)) =
-        let none = whole_ends _ more s.build r.build w.control v (subst (λ u. Taken u w.control r.build) e w.taken) in
-        (by_tokens (e ∙ ap (λ u. tokens_of (spelling s.geometry) ++ u) none ∙ append-nil _), sym (ends_at more q p none h))
+        let none = whole_ends us more g w.control w.build v (subst (λ u. Taken u w.control w.build) e w.taken) in
+        (by_tokens (e ∙ ap (λ u. us ++ u) none ∙ append-nil us), sym (ends_at more q p none h))
 
 -- Where the reader stops before the end, nothing is read.
-pub stopped_unread : (scale : ℕ) (bytes : List ℕ) (from place : ℕ) (c : Control) (b : Build) (kind : WktKind) → SoFar scale bytes from place c b → (c.step ≡ Done → ⊥) →
-    IsFaulty c b (lexeme_at scale bytes place).token kind → (figure : Figure) (last : ℕ) → Reads scale bytes from figure last → ⊥
+pub stopped_unread : (scale : ℕ) (bytes : List ℕ) (from place : ℕ) (c : Control) (b : Build) (kind : WktKind) → SoFar scale bytes from place c b →
+    (c.step ≡ Done → ⊥) → IsFaulty c b (lexeme_at scale bytes place).token kind → (figure : Figure) (last : ℕ) →
+    Reads scale bytes from figure last → ⊥
 stopped_unread scale bytes from place c b kind s not_done faulty figure last r =
-    go (stands_compare scale bytes s.tokens (tokens_of (spelling r.geometry)) from place last s.stands r.stands)
+    go (stands_compare scale bytes s.tokens ts from place last s.stands r.stands)
   where
-    w : Whole (tokens_of (spelling r.geometry)) r.build
+    ts : List Token
+    ts = tokens_of (spelling r.geometry)
+
+    w : Whole ts figure
     w = reads_whole scale bytes from figure last r
 
-    same_tokens : tokens_of (spelling r.geometry) ≡ s.tokens → ⊥
-    same_tokens e = not_done (ap (λ (u : Control). u.step) (sym (taken_same s.tokens w.control c r.build b (subst (λ u. Taken u w.control r.build) e w.taken) s.taken).0) ∙ w.done)
+    same_tokens : ts ≡ s.tokens → ⊥
+    same_tokens e =
+        let same = taken_same s.tokens w.control c w.build b (subst (λ u. Taken u w.control w.build) e w.taken) s.taken in
+        not_done (ap (λ (u : Control). u.step) (sym same.0) ∙ w.done)
 
-    goes_on : (more : List Token) → tokens_of (spelling r.geometry) ≡ s.tokens ++ more → Stands scale bytes place more last → ⊥
+    goes_on : (more : List Token) → ts ≡ s.tokens ++ more → Stands scale bytes place more last → ⊥
     goes_on [] e h = same_tokens (e ∙ append-nil s.tokens)
     goes_on (t ∷ more) e (f, h) =
         faulty_wrong s.tokens c b _ kind s.taken faulty
-        (subst (λ u. IsRight (s.tokens ++ u ∷ [])) (sym f) (right_front s.tokens more t (subst IsRight e (taken_right _ w.control r.build w.taken))))
+        (subst (λ u. IsRight (s.tokens ++ u ∷ [])) (sym f)
+        (right_front s.tokens more t (subst IsRight e (taken_right ts w.control w.build w.taken))))
 
-    go : ((more : List Token) × (tokens_of (spelling r.geometry) ≡ s.tokens ++ more) × Stands scale bytes place more last)
-        ⊎ ((more : List Token) × (s.tokens ≡ tokens_of (spelling r.geometry) ++ more) × Stands scale bytes last more place) → ⊥
+    go : ((more : List Token) × (ts ≡ s.tokens ++ more) × Stands scale bytes place more last)
+        ⊎ ((more : List Token) × (s.tokens ≡ ts ++ more) × Stands scale bytes last more place) → ⊥
     go (inl (more, e, h)) = goes_on more e h
     go (inr (more, e, h)) =
-        let none = whole_ends _ more r.build b c w (subst (λ u. Taken u c b) e s.taken) in
-        same_tokens (sym (e ∙ ap (λ u. tokens_of (spelling r.geometry) ++ u) none ∙ append-nil _))
+        let none = whole_ends ts more figure c b w (subst (λ u. Taken u c b) e s.taken) in
+        same_tokens (sym (e ∙ ap (λ u. ts ++ u) none ∙ append-nil ts))
 
 pub so_far_fault : (scale : ℕ) (bytes : List ℕ) (from place : ℕ) (c : Control) (b : Build) (kind : WktKind) (start_place : ℕ) →
     (IsOnlyWhite bytes from → ⊥) → (c.step ≡ Done → ⊥) → SoFar scale bytes from place c b →

@@ -1,5 +1,5 @@
 -- What tokens build is well shaped.
-use Rattle.std.proofs.Common.{◌≡◌, ℕ, ◌+◌, ◌-◌, ◌<◌, ◌≤◌, ℤ, pos, negsuc, ◌≤ℤ◌, nat_lt, cond, Bool, true, false, Option, Some, None, Result, Ok, Err, List, [], ◌∷◌, length, get_or, drop, take_while, codes, ◌==◌, sum_by, refl, sym, ap, subst, ◌∙◌, arith}
+use Rattle.std.proofs.Common.{◌≡◌, ℕ, ◌+◌, ◌-◌, ◌<◌, ◌≤◌, ℤ, pos, negsuc, ◌≤ℤ◌, nat_lt, cond, Bool, true, false, Option, Some, None, Ok, List, [], ◌∷◌, length, get_or, drop, take_while, codes, ◌==◌, sum_by, refl, sym, ap, subst, ◌∙◌, arith}
 use Rattle.std.specs.List.{All}
 use Rattle.std.specs.Ordering.{int_eq}
 use Rattle.std.proofs.lemmas.Int.{ints}
@@ -18,10 +18,9 @@ use Rattle.wkt_text.specs.declared.number.Numeral.{Numeral}
 use Rattle.wkt_text.specs.declared.number.Numeral.TheVariants.{Long, Malformed, Fraction, Wide, Whole}
 use Rattle.wkt_text.specs.declared.token.Token.{Token}
 use Rattle.wkt_text.specs.declared.token.Token.TheVariants as token
-use Rattle.wkt_text.specs.declared.control.Role.{Role}
-use Rattle.wkt_text.specs.declared.control.Role.TheVariants as role
-use Rattle.wkt_text.specs.declared.control.WktKind.{WktKind}
-use Rattle.wkt_text.specs.declared.control.WktKind.TheVariants.{RingShort, RingOpen}
+use Rattle.wkt_text.specs.declared.state.Role.{Role}
+use Rattle.wkt_text.specs.declared.state.Role.TheVariants as role
+use Rattle.wkt_text.specs.declared.control.WktKind.TheVariants.{LineShort}
 use Rattle.wkt_text.specs.declared.word.TypeWord.{TypeWord}
 use Rattle.wkt_text.specs.declared.word.Tag.{Tag}
 use Rattle.wkt_text.specs.Bytes.{is_numeric}
@@ -29,13 +28,17 @@ use Rattle.wkt_text.specs.Words.{tag_of, type_of}
 use Rattle.wkt_text.specs.Numbers.{signed, size_of, ratio_of, is_minus, is_formed, numeral_of}
 use Rattle.wkt_text.specs.Numbers as numbers
 use Rattle.wkt_text.specs.Tokens.{tag_token, type_token, is_name, word_token, word_in, number_in, is_number_start, mark, token_in, place_of, lexeme_at}
-use Rattle.wkt_text.specs.Grammar.{Slot, spelling}
-use Rattle.wkt_text.specs.Faults.{Stands, tokens_of, builds, Reads}
-use Rattle.wkt_text.proofs.TreeFigures.{reads_built}
-use Rattle.wkt_text.proofs.Courses.{ok_same}
+use Rattle.wkt_text.specs.Faults.{Stands, Reads}
+use Rattle.wkt_text.specs.Rules.{tokens_of}
+use Rattle.wkt_text.specs.Spelling.{spelling}
+use Rattle.wkt_text.proofs.Progress.{reads_whole}
+use Rattle.wkt_text.proofs.Keeping.{Holds, AllTokens, holds_if, holds_value, holds_unless, ring_tests, kept_along}
 use Rattle.std.specs.Char.{is_ascii_alphabetic}
 use Rattle.wkt_text.specs.declared.build.Build.{Build}
-use Rattle.wkt_text.specs.Rules.{◌>>=◌, place_value, drop_fault, same_place, ends_meet, ring_fault, unless, with_x, with_point, with_position, with_area, act, act_by, start_build}
+use Rattle.wkt_text.specs.Limits.{most_bytes, most_positions}
+use Rattle.wkt_text.specs.Rules.{drop_fault, same_place, ends_meet, line_fault, ring_fault}
+use Rattle.wkt_text.specs.Building.{place_value, with_x, with_point, with_position, with_line, with_area, begun, act_by, start_build}
+use Rattle.plane_exact.specs.Limits.{limit}
 
 -- A coordinate is within the limit.
 abbrev IsNear : ℤ → Type 0
@@ -58,11 +61,7 @@ abbrev IsShellShaped : Option (List Pt) → Type 0
 IsShellShaped None = Unit {0}
 IsShellShaped (Some ring) = IsRingShaped ring
 
--- A position that is begun, and a shell that is whole.
-abbrev begun : Option ℤ → ℕ
-begun None = 0
-begun (Some z) = 1
-
+-- How many positions a shell has that is whole.
 abbrev shell_length : Option (List Pt) → ℕ
 shell_length None = 0
 shell_length (Some ring) = length ring
@@ -76,27 +75,15 @@ pub record IsBuilt (b : Build) : Type 0 where
   holes : All IsRingShaped b.holes
   x : IsXNear b.x
   few : (((positions_of b.figure + length b.way) + shell_length b.shell) + sum_by length b.holes) + begun b.x ≤ b.count
-  most : b.count ≤ 1048576
+  most : b.count ≤ most_positions
 
-abbrev Good : Result Build WktKind → Type 0
-Good (Ok b) = IsBuilt b
-Good (Err k) = Unit {0}
-
-good_if : (c : Bool) (x y : Result Build WktKind) → (c ≡ true → Good x) → (c ≡ false → Good y) → Good (cond c x y)
-good_if true x y f g = f refl
-good_if false x y f g = g refl
-
-good_value : (t : Token) (f : ℤ → Result Build WktKind) → IsTokenNear t → ((z : ℤ) → IsNear z → Good (f z)) → Good (place_value t >>= f)
-good_value (token.Number Long) f n h = tt
-good_value (token.Number Malformed) f n h = tt
-good_value (token.Number Fraction) f n h = tt
-good_value (token.Number Wide) f n h = tt
-good_value (token.Number (Whole z)) f n h = h z n
-good_value other f n h = tt
-
-good_unless : (o : Option WktKind) (b : Build) → (o ≡ None → IsBuilt b) → Good (unless o b)
-good_unless None b h = h refl
-good_unless (Some k) b h = tt
+value_near : (t : Token) (z : ℤ) → IsTokenNear t → place_value t ≡ Ok z → IsNear z
+value_near (token.Number Long) z n e = absurd (cc)
+value_near (token.Number Malformed) z n e = absurd (cc)
+value_near (token.Number Fraction) z n e = absurd (cc)
+value_near (token.Number Wide) z n e = absurd (cc)
+value_near (token.Number (Whole y)) z n e = let same : y ≡ z = cc in subst IsNear same n
+value_near other z n e = absurd (cc)
 
 near_point : (x y : ℤ) → IsNear x → IsNear y → IsInLimit (record { x = x; y = y })
 near_point x y a b = record { left = a.0; right = a.1; bottom = b.0; top = b.1 }
@@ -114,7 +101,7 @@ built_start = record {
   most = omega arith;
 }
 
-good_x : (b : Build) (z : ℤ) → IsBuilt b → IsNear z → b.count < 1048576 → IsBuilt (with_x b z)
+good_x : (b : Build) (z : ℤ) → IsBuilt b → IsNear z → b.count < most_positions → IsBuilt (with_x b z)
 good_x b z h n c = record {
   points = h.points;
   lines = h.lines;
@@ -174,20 +161,19 @@ ends_meet_closed (p ∷ way) e =
         let ey : p.y ≡ q.y = (Decides-int_eq p.y q.y).0 ys in
         λ i. record { x = ex i; y = ey i }
 
-ring_tests : (short meet : Bool) → cond short (Some RingShort) (cond meet None (Some RingOpen)) ≡ None → (short ≡ false) × (meet ≡ true)
-ring_tests true meet e = absurd (cc)
-ring_tests false true e = (refl, refl)
-ring_tests false false e = absurd (cc)
-
 ring_shaped : (way : List Pt) → IsWayInLimit way → ring_fault way ≡ None → IsRingShaped way
 ring_shaped way near e =
     let (long, meet) = ring_tests (nat_lt (length way) 4) (ends_meet way) e in
     record { within = near; long = ltb-false (length way) 4 long; closed = ends_meet_closed way meet }
 
-good_line : (b : Build) → IsBuilt b → Good (act_by b role.EndLine token.Close)
-good_line b h = good_if (nat_lt (length b.way) 2) _ _ (λ e. tt) (λ e. record {
+line_test : (short : Bool) → cond short (Some LineShort) None ≡ None → short ≡ false
+line_test true e = absurd (cc)
+line_test false e = refl
+
+good_line : (b : Build) → IsBuilt b → Holds IsBuilt (act_by b role.EndLine token.Close)
+good_line b h = holds_unless IsBuilt (line_fault b.way) (with_line b) (λ e. record {
   points = h.points;
-  lines = All-push IsLineShaped b.figure.lines b.way h.lines (record { within = h.way; long = ltb-false (length b.way) 2 e });
+  lines = All-push IsLineShaped b.figure.lines b.way h.lines (record { within = h.way; long = ltb-false (length b.way) 2 (line_test _ e) });
   areas = h.areas;
   way = All-nil IsInLimit;
   shell = h.shell;
@@ -197,8 +183,8 @@ good_line b h = good_if (nat_lt (length b.way) 2) _ _ (λ e. tt) (λ e. record {
   most = h.most;
 })
 
-good_shell : (b : Build) → IsBuilt b → Good (act_by b role.EndShell token.Close)
-good_shell b h = good_unless (ring_fault b.way) _ (λ e. record {
+good_shell : (b : Build) → IsBuilt b → Holds IsBuilt (act_by b role.EndShell token.Close)
+good_shell b h = holds_unless IsBuilt (ring_fault b.way) _ (λ e. record {
   points = h.points;
   lines = h.lines;
   areas = h.areas;
@@ -210,8 +196,8 @@ good_shell b h = good_unless (ring_fault b.way) _ (λ e. record {
   most = h.most;
 })
 
-good_hole : (b : Build) → IsBuilt b → Good (act_by b role.EndHole token.Close)
-good_hole b h = good_unless (ring_fault b.way) _ (λ e. record {
+good_hole : (b : Build) → IsBuilt b → Holds IsBuilt (act_by b role.EndHole token.Close)
+good_hole b h = holds_unless IsBuilt (ring_fault b.way) _ (λ e. record {
   points = h.points;
   lines = h.lines;
   areas = h.areas;
@@ -241,7 +227,7 @@ good_area b (Some ring) e h =
       most = h.most;
     }
 
-same_built : (b : Build) → IsBuilt b → Good (act_by b role.Group token.Open)
+same_built : (b : Build) → IsBuilt b → Holds IsBuilt (act_by b role.Group token.Open)
 same_built b h = record {
   points = h.points;
   lines = h.lines;
@@ -255,37 +241,21 @@ same_built b h = record {
 }
 
 -- A token whose value is within the limit keeps what is built well shaped.
-good_act : (b : Build) (r : Role) (t : Token) → IsBuilt b → IsTokenNear t → Good (act_by b r t)
+good_act : (b : Build) (r : Role) (t : Token) → IsBuilt b → IsTokenNear t → Holds IsBuilt (act_by b r t)
 good_act b role.Head t h n = h
 good_act b role.Deep t h n = tt
 good_act b role.Mark t h n = h
 good_act b role.Group t h n = same_built b h
-good_act b role.X t h n = good_if (nat_lt b.count 1048576) _ _
-    (λ e. good_value t (λ z. Ok (with_x b z)) n (λ z m. good_x b z h m (ltb-true b.count 1048576 e))) (λ e. tt)
-good_act b role.PointY t h n = good_value t (λ z. Ok (with_point b b.x z)) n (λ z m. good_point b b.x z refl h m)
-good_act b role.WayY t h n = good_value t (λ z. Ok (with_position b b.x z)) n (λ z m. good_position b b.x z refl h m)
-good_act b role.Demanded t h n = good_unless (drop_fault t) b (λ e. h)
-good_act b role.Further t h n = good_unless (drop_fault t) b (λ e. h)
+good_act b role.X t h n = holds_if IsBuilt (nat_lt b.count most_positions) _ _
+    (λ e. holds_value IsBuilt t (with_x b) (λ z m. good_x b z h (value_near t z n m) (ltb-true b.count most_positions e))) (λ e. tt)
+good_act b role.PointY t h n = holds_value IsBuilt t (with_point b b.x) (λ z m. good_point b b.x z refl h (value_near t z n m))
+good_act b role.WayY t h n = holds_value IsBuilt t (with_position b b.x) (λ z m. good_position b b.x z refl h (value_near t z n m))
+good_act b role.Demanded t h n = holds_unless IsBuilt (drop_fault t) b (λ e. h)
+good_act b role.Further t h n = holds_unless IsBuilt (drop_fault t) b (λ e. h)
 good_act b role.EndLine t h n = good_line b h
 good_act b role.EndShell t h n = good_shell b h
 good_act b role.EndHole t h n = good_hole b h
 good_act b role.EndArea t h n = good_area b b.shell refl h
-
--- All tokens of a list are near.
-abbrev pub AreNear : List Token → Type 0
-AreNear [] = Unit {0}
-AreNear (t ∷ ts) = IsTokenNear t × AreNear ts
-
-good_then : (r : Result Build WktKind) (f : Build → Result Build WktKind) (d : Build) → Good r → (r >>= f) ≡ Ok d → (b : Build) × IsBuilt b × (f b ≡ Ok d)
-good_then (Ok b) f d g e = (b, g, e)
-good_then (Err k) f d g e = absurd (cc)
-
-built_all : (slots : List Slot) (b d : Build) → IsBuilt b → AreNear (tokens_of slots) → builds b slots ≡ Ok d → IsBuilt d
-unfolding act
-built_all [] b d h n e = subst IsBuilt (ok_same e) h
-built_all (x ∷ rest) b d h (n, ns) e =
-    let (c, k, f) = good_then (act_by b x.1 x.0) (λ c. builds c rest) d (good_act b x.1 x.0 h n) e in
-    built_all rest c d k ns f
 
 built_shaped : (b : Build) → IsBuilt b → IsWellShaped b.figure
 built_shaped b h = record { points = h.points; lines = h.lines; areas = h.areas; few = omega (arith, h.few, h.most) }
@@ -304,7 +274,7 @@ type_near : (o : Option (TypeWord × Tag)) (p : Option Tag) → IsTokenNear (typ
 type_near None p = tag_near p
 type_near (Some r) p = tt
 
-signed_near : (minus : Bool) (n : ℕ) → n ≤ 1048575 → IsNear (signed minus n)
+signed_near : (minus : Bool) (n : ℕ) → n ≤ limit → IsNear (signed minus n)
 signed_near true n h = (omega (arith, ints), omega (arith, ints))
 signed_near false n h = (omega (arith, ints), omega (arith, ints))
 
@@ -314,11 +284,11 @@ numeral_if false s t h k = k refl
 
 numeral_near : (scale : ℕ) (text : List ℕ) → IsNumeralNear (numeral_of scale text)
 numeral_near scale text =
-    numeral_if (nat_lt 64 (length text)) _ _ (λ e. tt) (λ e.
+    numeral_if (nat_lt most_bytes (length text)) _ _ (λ e. tt) (λ e.
     numeral_if (is_formed text) _ _ (λ f.
     numeral_if (numbers.is_whole (ratio_of text scale)) _ _ (λ w.
-    numeral_if (nat_lt 1048575 (size_of (ratio_of text scale))) _ _ (λ u. tt)
-    (λ u. signed_near (is_minus text) (size_of (ratio_of text scale)) (ltb-false 1048575 _ u)))
+    numeral_if (nat_lt limit (size_of (ratio_of text scale))) _ _ (λ u. tt)
+    (λ u. signed_near (is_minus text) (size_of (ratio_of text scale)) (ltb-false limit _ u)))
     (λ w. tt))
     (λ f. tt))
 
@@ -338,7 +308,7 @@ token_near scale (b ∷ rest) =
     word_near : (word : List ℕ) → IsTokenNear (word_token word)
     word_near word = near_if (is_name word (codes "EMPTY")) _ _ tt (near_if (is_name word (codes "NAN")) _ _ tt (type_near (type_of word) (tag_of word)))
 
-stands_near : (scale : ℕ) (bytes : List ℕ) (ts : List Token) (from last : ℕ) → Stands scale bytes from ts last → AreNear ts
+stands_near : (scale : ℕ) (bytes : List ℕ) (ts : List Token) (from last : ℕ) → Stands scale bytes from ts last → AllTokens IsTokenNear ts
 unfolding lexeme_at
 stands_near scale bytes [] from last h = tt
 stands_near scale bytes (t ∷ ts) from last (e, h) =
@@ -347,5 +317,7 @@ stands_near scale bytes (t ∷ ts) from last (e, h) =
 -- The figure that a text says is well shaped.
 pub reads_shaped : (scale : ℕ) (bytes : List ℕ) (from : ℕ) (figure : Figure) (last : ℕ) → Reads scale bytes from figure last → IsWellShaped figure
 reads_shaped scale bytes from figure last r =
-    subst IsWellShaped (sym (reads_built scale bytes from figure last r)) (built_shaped r.build (built_all (spelling r.geometry) start_build r.build built_start
-    (stands_near scale bytes (tokens_of (spelling r.geometry)) from last r.stands) r.kept))
+    let w = reads_whole scale bytes from figure last r in
+    let near = subst (AllTokens IsTokenNear) (sym w.taken.tokens) (stands_near scale bytes (tokens_of (spelling r.geometry)) from last r.stands) in
+    let built = kept_along IsBuilt IsTokenNear good_act w.taken.front start_build w.build built_start near w.taken.kept in
+    subst IsWellShaped (sym w.says) (built_shaped w.build built)

@@ -1,19 +1,19 @@
 -- A geometry that stands in a text, and the first fault of a text.
-use Rattle.std.specs.Prelude.{◌≡◌, ℕ, List, [], ◌∷◌, ◌++◌, map, drop, IsTrue, Result, Ok, Err, ◌⊎◌}
+use Rattle.std.specs.Prelude.{◌≡◌, ℕ, List, [], ◌∷◌, ◌++◌, drop, IsTrue, Some, ◌⊎◌}
 use Rattle.std.specs.List.{list_all}
-use Rattle.wkt_text.specs.Bytes.{is_white}
 use Rattle.point_set.specs.declared.figure.Figure.{Figure}
+use Rattle.wkt_text.specs.declared.word.TypeWord.{TypeWord}
+use Rattle.wkt_text.specs.declared.word.Tag.{Tag}
 use Rattle.wkt_text.specs.declared.token.Token.{Token}
 use Rattle.wkt_text.specs.declared.token.Token.TheVariants as token
-use Rattle.wkt_text.specs.declared.control.Role.{Role}
-use Rattle.wkt_text.specs.declared.control.Role.TheVariants.{Head, Demanded, Further}
 use Rattle.wkt_text.specs.declared.control.WktKind.{WktKind}
 use Rattle.wkt_text.specs.declared.control.WktKind.TheVariants.{Syntax, UnknownType, Ragged}
-use Rattle.wkt_text.specs.declared.build.Build.{Build}
-use Rattle.wkt_text.specs.Grammar.{Slot, Geometry, spelling}
-use Rattle.wkt_text.specs.Figures.{figure_of}
-use Rattle.wkt_text.specs.Rules.{◌>>=◌, act, start_build}
+use Rattle.wkt_text.specs.Bytes.{is_white}
 use Rattle.wkt_text.specs.Tokens.{lexeme_at}
+use Rattle.wkt_text.specs.Grammar.{Geometry}
+use Rattle.wkt_text.specs.Figures.{figure_of}
+use Rattle.wkt_text.specs.Rules.{TokenRule, demanded, further, Slot, slot, tokens_of, fault_under, begun_along, KeepRules}
+use Rattle.wkt_text.specs.Spelling.{spelling}
 
 -- These tokens stand in the bytes, one after the other, from a place on up to another.
 abbrev pub Stands : ℕ → List ℕ → ℕ → List Token → ℕ → Type 0
@@ -21,50 +21,54 @@ Stands scale bytes from [] to_place = from ≡ to_place
 Stands scale bytes from (t ∷ ts) to_place =
     ((lexeme_at scale bytes from).token ≡ t) × Stands scale bytes (lexeme_at scale bytes from).«end» ts to_place
 
-abbrev pub tokens_of : List Slot → List Token
-tokens_of slots = map (λ x. x.0) slots
-
--- What tokens build from left to right, each there for its purpose, or the first rule that one of them breaks.
-abbrev pub builds : Build → List Slot → Result Build WktKind
-builds b [] = Ok b
-builds b (x ∷ rest) = act b x.1 x.0 >>= λ c. builds c rest
-
--- From a place up to another stands the text of a geometry in which every rule is kept, and this is the figure of its tree.
+-- From a place up to another stands the text of a geometry in which each token keeps its rule, and this is the figure of its tree.
 pub record Reads (scale : ℕ) (bytes : List ℕ) (from : ℕ) (figure : Figure) (last : ℕ) : Type 0 where
   pub geometry : Geometry
-  pub build : Build
   pub stands : Stands scale bytes from (tokens_of (spelling geometry)) last
-  pub kept : builds start_build (spelling geometry) ≡ Ok build
+  pub kept : KeepRules 0 (spelling geometry)
   pub says : figure ≡ figure_of geometry
 
--- Some geometry's text begins with these tokens, and every rule is kept so far.
+-- The tokens are the beginning of some geometry's text, and each of them keeps its rule.
 pub record IsRight (ts : List Token) : Type 0 where
   pub geometry : Geometry
   pub front : List Slot
   pub rest : List Slot
-  pub build : Build
   pub spelled : spelling geometry ≡ front ++ rest
   pub tokens : tokens_of front ≡ ts
-  pub kept : builds start_build front ≡ Ok build
+  pub kept : KeepRules 0 front
 
--- After these tokens, which are right and build this, some geometry's text goes on with this token for this purpose.
-pub record Continues (ts : List Token) (build : Build) (t : Token) (role : Role) : Type 0 where
+-- After these tokens some geometry's text goes on with this token, which has this rule there.
+pub record Continues (ts : List Token) (t : Token) (rule : TokenRule) : Type 0 where
   pub geometry : Geometry
   pub front : List Slot
   pub rest : List Slot
-  pub spelled : spelling geometry ≡ front ++ (t, role) ∷ rest
+  pub spelled : spelling geometry ≡ front ++ slot t rule ∷ rest
   pub tokens : tokens_of front ≡ ts
-  pub kept : builds start_build front ≡ Ok build
 
--- The token isn't allowed after these.
+-- The token isn't allowed after these: no geometry's text goes on so.
 abbrev pub IsRefused : List Token → Token → Type 0
-IsRefused ts t = (build : Build) (role : Role) → Continues ts build t role → ⊥
+IsRefused ts t = (rule : TokenRule) → Continues ts t rule → ⊥
 
--- After these tokens some token may stand for this purpose.
-pub record IsExpected (ts : List Token) (role : Role) : Type 0 where
-  pub token : Token
-  pub build : Build
-  pub continues : Continues ts build token role
+-- A type word may stand after these tokens.
+pub record IsTypeExpected (ts : List Token) : Type 0 where
+  pub kind : TypeWord
+  pub tag : Tag
+  pub rule : TokenRule
+  pub continues : Continues ts (token.Type kind tag) rule
+
+-- After these tokens the tag demands a third or fourth ordinate.
+pub record IsOrdinateDemanded (ts : List Token) : Type 0 where
+  pub ordinate : Token
+  pub continues : Continues ts ordinate demanded
+
+-- The last of these tokens is the third or fourth ordinate of a position.
+pub record IsAfterThird (ts : List Token) : Type 0 where
+  pub before : List Token
+  pub ordinate : Token
+  pub rule : TokenRule
+  pub third : (rule ≡ demanded) ⊎ (rule ≡ further)
+  pub joined : ts ≡ before ++ ordinate ∷ []
+  pub continues : Continues before ordinate rule
 
 -- A word that is no type word.
 abbrev pub IsWord : Token → Type 0
@@ -80,28 +84,20 @@ IsOrdinate (token.Number n) = Unit {0}
 IsOrdinate token.Nan = Unit {0}
 IsOrdinate other = ⊥
 
--- The last of these tokens is there as the third or fourth ordinate of a position.
-pub record IsAfterThird (ts : List Token) : Type 0 where
-  pub before : List Token
-  pub last : Token
-  pub role : Role
-  pub build : Build
-  pub third : (role ≡ Demanded) ⊎ (role ≡ Further)
-  pub joined : ts ≡ before ++ last ∷ []
-  pub continues : Continues before build last role
-
 -- A word stands where a type word is expected.
 abbrev pub IsUnknownType : List Token → Token → Type 0
-IsUnknownType ts t = IsWord t × IsExpected ts Head
+IsUnknownType ts t = IsWord t × IsTypeExpected ts
 
 -- A tagged position has at least two ordinates and too few, and another token stands in the place of the missing one; or an
 -- ordinate stands after a position that has all that it may have.
 abbrev pub IsRagged : List Token → Token → Type 0
-IsRagged ts t = IsExpected ts Demanded ⊎ (IsOrdinate t × IsAfterThird ts)
+IsRagged ts t = IsOrdinateDemanded ts ⊎ (IsOrdinate t × IsAfterThird ts)
 
--- The kind of a faulty token after right ones: the rule that it breaks; or, where it isn't allowed, what else is said of it.
+-- The kind of a faulty token after right ones. Where it is allowed it is that of the rule that it breaks; where it isn't, what
+-- else is said of it, and Syntax where nothing is.
 pub data HasKind (ts : List Token) (t : Token) : WktKind → Type 0 where
-  breaks : {kind : WktKind} (build : Build) (role : Role) → Continues ts build t role → act build role t ≡ Err kind → HasKind ts t kind
+  breaks : {kind : WktKind} (rule : TokenRule) (continues : Continues ts t rule) →
+      fault_under rule (begun_along 0 continues.front) t ≡ Some kind → HasKind ts t kind
   unknown_type : IsRefused ts t → IsUnknownType ts t → HasKind ts t UnknownType
   ragged : IsRefused ts t → IsRagged ts t → HasKind ts t Ragged
   syntax : IsRefused ts t → (IsUnknownType ts t → ⊥) → (IsRagged ts t → ⊥) → HasKind ts t Syntax

@@ -15,19 +15,19 @@ coordinate_of (Whole z) = z
 coordinate_of other = pos 0
 
 -- The point of a position. Third and fourth ordinates are dropped.
-abbrev pub point_of : {tag : Tag} → Position tag → Pt
-point_of p = record { x = coordinate_of p.x; y = coordinate_of p.y }
+abbrev pub point_of_position : {tag : Tag} → Position tag → Pt
+point_of_position p = record { x = coordinate_of p.x; y = coordinate_of p.y }
 
 -- The line or ring of a way: its points in order. EMPTY gives none.
 abbrev pub paths_of_way : {tag : Tag} → Way tag → List (List Pt)
 paths_of_way empty_way = []
-paths_of_way (along p ps) = map point_of (p ∷ ps) ∷ []
+paths_of_way (along p ps) = map point_of_position (p ∷ ps) ∷ []
 
 -- The point of an element of a MULTIPOINT, with brackets or without. EMPTY gives none.
 abbrev pub points_of_element : {tag : Tag} → Element tag → List Pt
 points_of_element empty_element = []
-points_of_element (bare p) = point_of p ∷ []
-points_of_element (bracketed p) = point_of p ∷ []
+points_of_element (bare p) = point_of_position p ∷ []
+points_of_element (bracketed p) = point_of_position p ∷ []
 
 -- An area whose group has no number yet.
 pub record Region : Type 0 where
@@ -38,7 +38,7 @@ pub record Region : Type 0 where
 abbrev pub regions_of_surface : {tag : Tag} → Surface tag → List Region
 regions_of_surface empty_surface = []
 regions_of_surface (hollow n) = []
-regions_of_surface (area p ps holes) = record { shell = map point_of (p ∷ ps); holes = flat_map paths_of_way holes } ∷ []
+regions_of_surface (area p ps holes) = record { shell = map point_of_position (p ∷ ps); holes = flat_map paths_of_way holes } ∷ []
 
 -- The items of a MULTI type.
 abbrev pub items_of : {A : Type 0} → Many A → List A
@@ -47,7 +47,7 @@ items_of (several x xs) = x ∷ xs
 
 -- The loose points: of a POINT and of a MULTIPOINT.
 abbrev pub points_of_simple : {tag : Tag} → Simple tag → List Pt
-points_of_simple (point p) = point_of p ∷ []
+points_of_simple (point p) = point_of_position p ∷ []
 points_of_simple (points es) = flat_map points_of_element (items_of es)
 points_of_simple other = []
 

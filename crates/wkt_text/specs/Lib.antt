@@ -1,11 +1,14 @@
+pub mod Building
 pub mod Bytes
 pub mod Faults
 pub mod Figures
 pub mod Grammar
+pub mod Limits
 pub mod Machine
 pub mod Numbers
 pub mod Reading
 pub mod Results
 pub mod Rules
+pub mod Spelling
 pub mod Tokens
 pub mod Words

@@ -1,21 +1,23 @@
 -- How the reader goes from token to token. Nothing that the crate promises is said by these words: see Grammar and Faults.
-use Rattle.std.specs.Prelude.{ℕ, zero, suc, Bool, true, false, Option, Some, None, option_map}
+use Rattle.std.specs.Prelude.{ℕ, zero, suc, nat_lt, Bool, true, false, if◌then◌else◌, Option, Some, None, option_map}
 use Rattle.wkt_text.specs.declared.word.TypeWord.{TypeWord}
 use Rattle.wkt_text.specs.declared.word.TypeWord.TheVariants as type
 use Rattle.wkt_text.specs.declared.word.Tag.{Tag}
 use Rattle.wkt_text.specs.declared.word.Tag.TheVariants.{Plain, Z, M, Zm}
 use Rattle.wkt_text.specs.declared.token.Token.{Token}
 use Rattle.wkt_text.specs.declared.token.Token.TheVariants as token
-use Rattle.wkt_text.specs.declared.control.Role.{Role}
-use Rattle.wkt_text.specs.declared.control.Role.TheVariants.{Head, Mark, Group, X, PointY, WayY, Demanded, Further, EndLine, EndShell, EndHole, EndArea}
-use Rattle.wkt_text.specs.declared.control.Rings.TheVariants.{Shell, Hole, Hollow}
-use Rattle.wkt_text.specs.declared.control.Site.{Site}
-use Rattle.wkt_text.specs.declared.control.Site.TheVariants as site
-use Rattle.wkt_text.specs.declared.control.Step.{Step}
-use Rattle.wkt_text.specs.declared.control.Step.TheVariants.{Start, Tagged, Body, Item, First, Second, Two, Three, After, Full, Done}
-use Rattle.wkt_text.specs.declared.control.Control.{Control}
+use Rattle.wkt_text.specs.declared.state.Role.{Role}
+use Rattle.wkt_text.specs.declared.state.Role.TheVariants.{Head, Deep, Mark, Group, X, PointY, WayY, Demanded, Further, EndLine, EndShell, EndHole, EndArea}
+use Rattle.wkt_text.specs.declared.state.Rings.TheVariants.{Shell, Hole, Hollow}
+use Rattle.wkt_text.specs.declared.state.Membership.TheVariants.{Alone, Member}
+use Rattle.wkt_text.specs.declared.state.RingKind.TheVariants as ring
+use Rattle.wkt_text.specs.declared.state.Site.{Site}
+use Rattle.wkt_text.specs.declared.state.Site.TheVariants as site
+use Rattle.wkt_text.specs.declared.state.Step.{Step}
+use Rattle.wkt_text.specs.declared.state.Step.TheVariants.{Start, Tagged, Body, Item, First, Second, Two, Three, After, Full, Done}
+use Rattle.wkt_text.specs.declared.state.Control.{Control}
 use Rattle.wkt_text.specs.declared.control.WktKind.{WktKind}
-use Rattle.wkt_text.specs.Grammar.{depth_role}
+use Rattle.wkt_text.specs.Limits.{most_depth}
 use Rattle.wkt_text.specs.declared.control.WktKind.TheVariants.{Syntax, UnknownType, Ragged}
 
 -- What a token is for, and where the reader is after it; None where the token isn't allowed.
@@ -43,6 +45,10 @@ step_tagged kind Z = Body kind
 step_tagged kind M = Body kind
 step_tagged kind Zm = Body kind
 
+-- The role of the type word of a collection in so many others.
+abbrev pub depth_role : ℕ → Role
+depth_role depth = if nat_lt depth most_depth then Head else Deep
+
 abbrev pub started : Control → TypeWord → Tag → Role × Control
 started c type.GeometryCollection tag =
     (depth_role c.depth, record { step = step_tagged type.GeometryCollection tag; site = c.site; depth = suc c.depth; tag = tag })
@@ -54,8 +60,8 @@ at_start c other = None
 
 abbrev pub opened : Control → TypeWord → Role × Control
 opened c type.Point = (Mark, to c First site.Point)
-opened c type.LineString = (Mark, to c First (site.Line false))
-opened c type.Polygon = (Group, to c Item (site.Polygon false Shell))
+opened c type.LineString = (Mark, to c First (site.Line Alone))
+opened c type.Polygon = (Group, to c Item (site.Polygon Alone Shell))
 opened c type.MultiPoint = (Mark, to c Item site.Points)
 opened c type.MultiLineString = (Mark, to c Item site.Lines)
 opened c type.MultiPolygon = (Group, to c Item site.Polygons)
@@ -78,10 +84,10 @@ at_body c kind other = None
 
 abbrev pub inner : Site → Option (Step × Site)
 inner site.Points = Some (First, site.Element)
-inner site.Lines = Some (First, site.Line true)
-inner site.Polygons = Some (Item, site.Polygon true Shell)
-inner (site.Polygon many Shell) = Some (First, site.Ring many false)
-inner (site.Polygon many Hole) = Some (First, site.Ring many true)
+inner site.Lines = Some (First, site.Line Member)
+inner site.Polygons = Some (Item, site.Polygon Member Shell)
+inner (site.Polygon many Shell) = Some (First, site.Ring many ring.Shell)
+inner (site.Polygon many Hole) = Some (First, site.Ring many ring.Hole)
 inner other = None
 
 abbrev pub after_gap : Site → Site
@@ -107,17 +113,17 @@ second_role other = WayY
 
 abbrev pub end_role : Site → Role
 end_role (site.Line many) = EndLine
-end_role (site.Ring many false) = EndShell
-end_role (site.Ring many true) = EndHole
+end_role (site.Ring many ring.Shell) = EndShell
+end_role (site.Ring many ring.Hole) = EndHole
 end_role (site.Polygon many Hole) = EndArea
 end_role other = Mark
 
 abbrev pub after_close_of : Control → Site → Control
 after_close_of c site.Top = ended c (outer c.depth)
-after_close_of c (site.Line true) = to c After site.Lines
+after_close_of c (site.Line Member) = to c After site.Lines
 after_close_of c site.Element = to c After site.Points
-after_close_of c (site.Ring many hole) = to c After (site.Polygon many Hole)
-after_close_of c (site.Polygon true rings) = to c After site.Polygons
+after_close_of c (site.Ring many kind) = to c After (site.Polygon many Hole)
+after_close_of c (site.Polygon Member rings) = to c After site.Polygons
 after_close_of c other = ended c c.depth
 
 abbrev pub after_close : Control → Control
@@ -126,7 +132,7 @@ after_close c = after_close_of (to c After c.site) c.site
 abbrev pub after_comma : Site → Option Step
 after_comma site.Top = Some Start
 after_comma (site.Line many) = Some First
-after_comma (site.Ring many hole) = Some First
+after_comma (site.Ring many kind) = Some First
 after_comma site.Point = None
 after_comma site.Element = None
 after_comma (site.Polygon many Shell) = None

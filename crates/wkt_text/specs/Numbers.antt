@@ -3,7 +3,9 @@ use Rattle.std.specs.Prelude.{ℕ, suc, ◌+◌, ◌-◌, ◌*◌, ◌/◌, ◌%
 use Rattle.std.specs.List.{prefix_len, list_all, fold}
 use Rattle.std.specs.Char.{is_ascii_digit}
 use lib.IntN.{neg_ℤ}
+use Rattle.plane_exact.specs.Limits.{limit}
 use Rattle.wkt_text.specs.Bytes.{is_of_mantissa}
+use Rattle.wkt_text.specs.Limits.{most_bytes}
 use Rattle.wkt_text.specs.declared.number.Numeral.{Numeral}
 use Rattle.wkt_text.specs.declared.number.Numeral.TheVariants.{Long, Malformed, Fraction, Wide, Whole}
 
@@ -116,12 +118,12 @@ signed minus size = if minus then neg_ℤ (pos size) else pos size
 -- What is said of a value: it isn't whole, or it is above the limit in size, or it is this number.
 abbrev pub value_of : Bool → Ratio → Numeral
 value_of minus r =
-    if is_whole r then (if nat_lt 1048575 (size_of r) then Wide else Whole (signed minus (size_of r))) else Fraction
+    if is_whole r then (if nat_lt limit (size_of r) then Wide else Whole (signed minus (size_of r))) else Fraction
 
 -- What is said of a number, the tests in their order: more than 64 bytes, another form, the value.
 abbrev pub numeral_of : ℕ → List ℕ → Numeral
 numeral_of scale text =
-    if nat_lt 64 (length text) then Long
+    if nat_lt most_bytes (length text) then Long
     else (if is_formed text then value_of (is_minus text) (ratio_of text scale) else Malformed)
 
 -- How the reader finds a value: it keeps the front of the digits, and puts zeros after them.
@@ -137,9 +139,9 @@ is_zero b = b == 48
 -- The value of so many digits in front with zeros after them, where the other digits are zeros.
 abbrev pub kept_value : List ℕ → ℕ → ℕ → Option ℕ
 kept_value digits kept zeros =
-    if list_all is_zero (drop kept digits) then Some (capped 1048576 (from_digits (take kept digits) * 10 ^ zeros)) else None
+    if list_all is_zero (drop kept digits) then Some (capped (limit + 1) (from_digits (take kept digits) * 10 ^ zeros)) else None
 
 -- What is said of a number by that.
 abbrev pub judged : Bool → Option ℕ → Numeral
 judged minus None = Fraction
-judged minus (Some size) = if nat_lt 1048575 size then Wide else Whole (signed minus size)
+judged minus (Some size) = if nat_lt limit size then Wide else Whole (signed minus size)

@@ -1,42 +1,63 @@
--- The rules that tokens keep by themselves, and what they build.
-use Rattle.std.specs.Prelude.{◌≡◌, ℕ, ◌+◌, ◌-◌, ℤ, Bool, true, nat_lt, if◌then◌else◌, Option, Some, None, Result, Ok, Err, List, [], ◌∷◌, ◌++◌, length, slice_get, slice_index_or, ◌&&◌}
+-- The rules that tokens keep by themselves, by what they are in their geometry, and the fault of a token that breaks its rule.
+use Rattle.std.specs.Prelude.{◌≡◌, ◌+◌, ℕ, map, ◌-◌, Bool, true, nat_lt, if◌then◌else◌, Option, Some, None, List, [], ◌∷◌, length, slice_index_or, ◌&&◌}
 use Rattle.std.specs.Ordering.{int_eq}
 use Rattle.plane_exact.specs.declared.point.Pt.{Pt}
-use Rattle.point_set.specs.declared.figure.Area.{Area}
-use Rattle.point_set.specs.declared.figure.Figure.{Figure}
-use Rattle.wkt_text.specs.declared.build.Build.{Build}
-use Rattle.wkt_text.specs.declared.build.Stop.{Stop}
-use Rattle.wkt_text.specs.declared.build.Stop.TheVariants as stop
 use Rattle.wkt_text.specs.declared.number.Numeral.{Numeral}
 use Rattle.wkt_text.specs.declared.number.Numeral.TheVariants.{Long, Malformed, Fraction, Wide, Whole}
 use Rattle.wkt_text.specs.declared.token.Token.{Token}
 use Rattle.wkt_text.specs.declared.token.Token.TheVariants as token
-use Rattle.wkt_text.specs.declared.control.Role.{Role}
-use Rattle.wkt_text.specs.declared.control.Role.TheVariants as role
 use Rattle.wkt_text.specs.declared.control.WktKind.{WktKind}
 use Rattle.wkt_text.specs.declared.control.WktKind.TheVariants.{Syntax, NotWhole, TooWide, LongNumber, RingOpen, RingShort, LineShort, Deep, TooMany}
+use Rattle.wkt_text.specs.Limits.{most_depth, most_positions}
 
--- The value of a number in the place of x or y, or its fault.
-abbrev pub numeral_value : Numeral → Result ℤ WktKind
-numeral_value Long = Err LongNumber
-numeral_value Malformed = Err Syntax
-numeral_value Fraction = Err NotWhole
-numeral_value Wide = Err TooWide
-numeral_value (Whole z) = Ok z
+-- The rule of a token: that of the word of a collection in so many others; of the first or the second ordinate of a position; of
+-- a third or fourth ordinate that the tag demands, and of one where there is no tag; of the bracket that ends a line or a ring
+-- with these positions. An unruled token has to keep the grammar alone.
+pub data TokenRule : Type 0 where
+  unruled : TokenRule
+  nested : ℕ → TokenRule
+  first : TokenRule
+  second : TokenRule
+  demanded : TokenRule
+  further : TokenRule
+  ends_line : List Pt → TokenRule
+  ends_ring : List Pt → TokenRule
 
-abbrev pub place_value : Token → Result ℤ WktKind
-place_value (token.Number n) = numeral_value n
-place_value other = Err Syntax
+-- A token with its rule.
+abbrev pub Slot : Type 0
+Slot = Token × TokenRule
 
--- The fault of a number in the place of a third or fourth ordinate: its length and its form alone are tested.
+abbrev pub slot : Token → TokenRule → Slot
+slot t rule = (t, rule)
+
+abbrev pub tokens_of : List Slot → List Token
+tokens_of slots = map (λ x. x.0) slots
+
+-- The fault of a number in the place of x or y.
 abbrev pub numeral_fault : Numeral → Option WktKind
 numeral_fault Long = Some LongNumber
 numeral_fault Malformed = Some Syntax
-numeral_fault other = None
+numeral_fault Fraction = Some NotWhole
+numeral_fault Wide = Some TooWide
+numeral_fault (Whole z) = None
+
+abbrev pub place_fault : Token → Option WktKind
+place_fault (token.Number n) = numeral_fault n
+place_fault other = Some Syntax
+
+-- The fault of a number in the place of a third or fourth ordinate: its length and its form alone are tested.
+abbrev pub dropped_fault : Numeral → Option WktKind
+dropped_fault Long = Some LongNumber
+dropped_fault Malformed = Some Syntax
+dropped_fault other = None
 
 abbrev pub drop_fault : Token → Option WktKind
-drop_fault (token.Number n) = numeral_fault n
+drop_fault (token.Number n) = dropped_fault n
 drop_fault other = None
+
+-- The fault of a line with these positions, at its end.
+abbrev pub line_fault : List Pt → Option WktKind
+line_fault way = if nat_lt (length way) 2 then Some LineShort else None
 
 -- Whether two positions have the same x and the same y.
 abbrev pub same_place : Pt → Pt → Bool
@@ -51,155 +72,27 @@ ends_meet (p ∷ way) = same_place p (slice_index_or (p ∷ way) (length (p ∷ 
 abbrev pub ring_fault : List Pt → Option WktKind
 ring_fault way = if nat_lt (length way) 4 then Some RingShort else (if ends_meet way then None else Some RingOpen)
 
--- Before any token.
-abbrev pub empty_figure : Figure
-empty_figure = record { points = []; lines = []; areas = [] }
+-- The fault of a token under its rule, where so many positions of the geometry were begun before it.
+abbrev pub fault_under : TokenRule → ℕ → Token → Option WktKind
+fault_under unruled n t = None
+fault_under (nested depth) n t = if nat_lt depth most_depth then None else Some Deep
+fault_under first n t = if nat_lt n most_positions then place_fault t else Some TooMany
+fault_under second n t = place_fault t
+fault_under demanded n t = drop_fault t
+fault_under further n t = drop_fault t
+fault_under (ends_line way) n t = line_fault way
+fault_under (ends_ring way) n t = ring_fault way
 
-abbrev pub start_build : Build
-start_build = record { figure = empty_figure; way = []; shell = None; holes = []; x = None; count = 0; group = 0 }
+-- How many positions are begun with a token, and with tokens, where so many were before.
+abbrev pub begun_with : TokenRule → ℕ → ℕ
+begun_with first n = n + 1
+begun_with other n = n
 
--- A step with a value, or its fault.
-infixl 10 ◌>>=◌
-abbrev pub ◌>>=◌ : {A B : Type 0} → Result A WktKind → (A → Result B WktKind) → Result B WktKind
-(Ok x) >>= f = f x
-(Err e) >>= f = Err e
+abbrev pub begun_along : ℕ → List Slot → ℕ
+begun_along n [] = n
+begun_along n (x ∷ rest) = begun_along (begun_with x.1 n) rest
 
--- The number of a group that begins after these areas: one more than that of the last area, or 0 where there is none. A group
--- without an area takes no number.
-abbrev pub group_after : Option Area → ℕ
-group_after None = 0
-group_after (Some area) = area.group + 1
-
-abbrev pub next_group : List Area → ℕ
-next_group areas = group_after (slice_get areas (length areas - 1))
-
--- The areas to come have a group of their own.
-abbrev pub act_group : Build → Result Build WktKind
-act_group b = Ok (record { figure = b.figure; way = b.way; shell = b.shell; holes = b.holes; x = b.x; count = b.count; group = next_group b.figure.areas })
-
--- A first ordinate begins a position. The position 1,048,577 is one too many.
-abbrev pub with_x : Build → ℤ → Build
-with_x b z = record { figure = b.figure; way = b.way; shell = b.shell; holes = b.holes; x = Some z; count = b.count + 1; group = b.group }
-
-abbrev pub act_x : Build → Token → Result Build WktKind
-act_x b t = if nat_lt b.count 1048576 then (place_value t >>= λ z. Ok (with_x b z)) else Err TooMany
-
--- A second ordinate ends a position, of a loose point or of a line or ring.
-abbrev pub with_points : Figure → List Pt → Figure
-with_points f points = record { points = points; lines = f.lines; areas = f.areas }
-
-abbrev pub with_point : Build → Option ℤ → ℤ → Build
-with_point b None z = b
-with_point b (Some x) z = record {
-  figure = with_points b.figure (b.figure.points ++ (record { x = x; y = z }) ∷ []);
-  way = b.way;
-  shell = b.shell;
-  holes = b.holes;
-  x = None;
-  count = b.count;
-  group = b.group;
-}
-
-abbrev pub act_point : Build → Token → Result Build WktKind
-act_point b t = place_value t >>= λ z. Ok (with_point b b.x z)
-
-abbrev pub with_position : Build → Option ℤ → ℤ → Build
-with_position b None z = b
-with_position b (Some x) z = record {
-  figure = b.figure;
-  way = b.way ++ (record { x = x; y = z }) ∷ [];
-  shell = b.shell;
-  holes = b.holes;
-  x = None;
-  count = b.count;
-  group = b.group;
-}
-
-abbrev pub act_way : Build → Token → Result Build WktKind
-act_way b t = place_value t >>= λ z. Ok (with_position b b.x z)
-
--- A third or fourth ordinate is dropped.
-abbrev pub unless : Option WktKind → Build → Result Build WktKind
-unless (Some k) b = Err k
-unless None b = Ok b
-
--- A line ends: it has two positions or more.
-abbrev pub with_lines : Figure → List (List Pt) → Figure
-with_lines f lines = record { points = f.points; lines = lines; areas = f.areas }
-
-abbrev pub end_line : Build → Result Build WktKind
-end_line b = if nat_lt (length b.way) 2 then Err LineShort else Ok (record {
-  figure = with_lines b.figure (b.figure.lines ++ b.way ∷ []);
-  way = [];
-  shell = b.shell;
-  holes = b.holes;
-  x = b.x;
-  count = b.count;
-  group = b.group;
-})
-
--- A ring ends: it has four positions or more, and its first is its last.
-abbrev pub end_shell : Build → Result Build WktKind
-end_shell b = unless (ring_fault b.way) (record {
-  figure = b.figure;
-  way = [];
-  shell = Some b.way;
-  holes = b.holes;
-  x = b.x;
-  count = b.count;
-  group = b.group;
-})
-
-abbrev pub end_hole : Build → Result Build WktKind
-end_hole b = unless (ring_fault b.way) (record {
-  figure = b.figure;
-  way = [];
-  shell = b.shell;
-  holes = b.holes ++ b.way ∷ [];
-  x = b.x;
-  count = b.count;
-  group = b.group;
-})
-
--- A polygon with a shell ends.
-abbrev pub with_areas : Figure → List Area → Figure
-with_areas f areas = record { points = f.points; lines = f.lines; areas = areas }
-
-abbrev pub with_area : Build → Option (List Pt) → Build
-with_area b None = b
-with_area b (Some shell) = record {
-  figure = with_areas b.figure (b.figure.areas ++ (record { shell = shell; holes = b.holes; group = b.group }) ∷ []);
-  way = b.way;
-  shell = None;
-  holes = [];
-  x = b.x;
-  count = b.count;
-  group = b.group;
-}
-
-abbrev pub end_area : Build → Result Build WktKind
-end_area b = Ok (with_area b b.shell)
-
--- What a token does that is there for this, or the rule that it breaks.
-abbrev pub act_by : Build → Role → Token → Result Build WktKind
-act_by b role.Head t = Ok b
-act_by b role.Deep t = Err Deep
-act_by b role.Mark t = Ok b
-act_by b role.Group t = act_group b
-act_by b role.X t = act_x b t
-act_by b role.PointY t = act_point b t
-act_by b role.WayY t = act_way b t
-act_by b role.Demanded t = unless (drop_fault t) b
-act_by b role.Further t = unless (drop_fault t) b
-act_by b role.EndLine t = end_line b
-act_by b role.EndShell t = end_shell b
-act_by b role.EndHole t = end_hole b
-act_by b role.EndArea t = end_area b
-
-unfoldable pub act : Build → Role → Token → Result Build WktKind
-act b r t = act_by b r t
-
--- A stop is the fault that this gives, unless memory is wanting.
-abbrev pub StopsAt : Stop → Result Build WktKind → Type 0
-StopsAt (stop.Fault k) r = r ≡ Err k
-StopsAt stop.NoMemory r = Unit {0}
+-- Each of these tokens keeps its rule, where so many positions were begun before.
+abbrev pub KeepRules : ℕ → List Slot → Type 0
+KeepRules n [] = Unit {0}
+KeepRules n (x ∷ rest) = (fault_under x.1 n x.0 ≡ None) × KeepRules (begun_with x.1 n) rest

@@ -1,8 +1,12 @@
-ghost use Rattle.std.specs.Prelude.{◌≡◌, ◌<◌, ◌^◌, IfOk, IfErr, SomeIff, length};
-ghost use Rattle.wkt_text.specs.Rules.{place_value, drop_fault, ends_meet, ring_fault, StopsAt, act, next_group, act_group, act_x, act_point, act_way, end_line, end_shell, end_hole, end_area, start_build};
+ghost use Rattle.std.specs.Prelude.{◌≡◌, ◌<◌, ◌≤◌, IfOk, IfErr, length};
+ghost use Rattle.wkt_text.specs.Limits.{most_positions};
+ghost use Rattle.wkt_text.specs.Rules.{drop_fault, ends_meet, line_fault, ring_fault};
+ghost use Rattle.wkt_text.specs.Building.{place_value, StopsAt, IsWantFor, IsCounted, act, next_group, with_group, with_area, act_x, act_point, act_way, end_line, end_shell, end_hole, start_build};
 
-use crate::control::{Role, WktKind};
+use crate::control::WktKind;
 use crate::number::Numeral;
+use crate::read::WktFault;
+use crate::state::Role;
 use crate::token::Token;
 use plane_exact::{NoMemory, Path, Pt};
 use point_set::{Area, Areas, Figure, Paths};
@@ -41,6 +45,20 @@ impl From<WktKind> for Stop {
     }
 }
 
+impl Stop {
+    ghost use Rattle.wkt_text.specs.Reading.{fault_at};
+
+    /// The fault of a reading that stops so at the token whose first byte has this place.
+    pub fn at(self, place: usize) -> WktFault
+        ensures fault { result ≡ fault_at place self }
+    {
+        match self {
+            Stop::Fault(kind) => WktFault::Bad(kind, place),
+            Stop::NoMemory => WktFault::NoMemory,
+        }
+    }
+}
+
 /// What the tokens so far have built.
 #[derive(Debug, Drop)]
 pub struct Build {
@@ -73,20 +91,21 @@ fn place_value(token: Token) -> Result<i64, WktKind>
     }
 }
 
-/// The fault of a third or fourth ordinate, which is dropped.
-fn drop_fault(token: Token) -> Option<WktKind>
-    ensures fault { result ≡ drop_fault token }
+/// Tests a third or fourth ordinate, which is dropped.
+fn check_dropped(token: Token) -> Result<(), WktKind>
+    ensures kept { IfOk result (λ _. drop_fault token ≡ None) }
+    ensures fault { IfErr result (λ k. drop_fault token ≡ Some k) }
 {
     match token {
-        Token::Number(Numeral::Long) => Some(WktKind::LongNumber),
-        Token::Number(Numeral::Malformed) => Some(WktKind::Syntax),
-        _ => None,
+        Token::Number(Numeral::Long) => Err(WktKind::LongNumber),
+        Token::Number(Numeral::Malformed) => Err(WktKind::Syntax),
+        _ => Ok(()),
     }
 }
 
 /// Whether the first position is the last.
 fn ends_meet(way: &Path) -> bool
-    requires { 0 < length way.now }
+    requires some { 0 < length way.now }
     ensures closed { result ≡ ends_meet way.now }
 {
     let first = way.at(0);
@@ -94,27 +113,40 @@ fn ends_meet(way: &Path) -> bool
     first.x == last.x && first.y == last.y
 }
 
-/// The fault of a ring at its end.
-fn ring_fault(way: &Path) -> Option<WktKind>
-    ensures fault { result ≡ ring_fault way.now }
+/// Tests a line at its end.
+fn check_line(way: &Path) -> Result<(), WktKind>
+    ensures kept { IfOk result (λ _. line_fault way.now ≡ None) }
+    ensures fault { IfErr result (λ k. line_fault way.now ≡ Some k) }
+{
+    if way.len() < 2 {
+        return Err(WktKind::LineShort);
+    }
+    Ok(())
+}
+
+/// Tests a ring at its end.
+fn check_ring(way: &Path) -> Result<(), WktKind>
+    ensures kept { IfOk result (λ _. ring_fault way.now ≡ None) }
+    ensures fault { IfErr result (λ k. ring_fault way.now ≡ Some k) }
 {
     if way.len() < 4 {
-        return Some(WktKind::RingShort);
+        return Err(WktKind::RingShort);
     }
     if ends_meet(way) {
-        None
+        Ok(())
     } else {
-        Some(WktKind::RingOpen)
+        Err(WktKind::RingOpen)
     }
 }
 
-/// The number of a group that begins after these areas, or None where it doesn't fit.
-fn next_group(areas: &Areas) -> Option<u32>
-    ensures group { SomeIff result (next_group areas.now < 2 ^ 32) (next_group areas.now) }
+/// The number of a group that begins after these areas.
+fn next_group(areas: &Areas) -> u32
+    requires few { next_group areas.now ≤ most_positions }
+    ensures group { result ≡ next_group areas.now }
 {
     match areas.as_slice().last() {
-        Some(area) => area.group.checked_add(1),
-        None => Some(0),
+        Some(area) => area.group + 1,
+        None => 0,
     }
 }
 
@@ -135,25 +167,20 @@ impl Build {
     }
 
     /// The areas to come have a group of their own.
-    fn begin_group(&mut self) -> Result<(), Stop>
-        ensures done { IfOk result (λ _. act_group self.old ≡ Ok self.new) }
-        ensures stop { IfErr result (λ e. StopsAt e (act_group self.old)) }
+    fn begin_group(&mut self)
+        requires few { next_group self.old.figure.areas ≤ most_positions }
+        ensures done { self.new ≡ with_group self.old }
     {
-        // There are never more groups than positions, so the number always fits.
-        let Some(group) = next_group(&self.figure.areas) else {
-            return Err(Stop::NoMemory);
-        };
-        self.group = group;
-        Ok(())
+        self.group = next_group(&self.figure.areas);
     }
 
     /// Takes a first ordinate.
-    fn take_x(&mut self, token: Token) -> Result<(), Stop>
+    fn take_x(&mut self, token: Token) -> Result<(), WktKind>
         ensures done { IfOk result (λ _. act_x self.old token ≡ Ok self.new) }
-        ensures stop { IfErr result (λ e. StopsAt e (act_x self.old token)) }
+        ensures fault { IfErr result (λ k. act_x self.old token ≡ Err k) }
     {
         if self.count >= MOST {
-            return Err(Stop::Fault(WktKind::TooMany));
+            return Err(WktKind::TooMany);
         }
         let value = place_value(token)?;
         self.x = Some(value);
@@ -192,22 +219,18 @@ impl Build {
         ensures done { IfOk result (λ _. end_line self.old ≡ Ok self.new) }
         ensures stop { IfErr result (λ e. StopsAt e (end_line self.old)) }
     {
-        if self.way.len() < 2 {
-            return Err(Stop::Fault(WktKind::LineShort));
-        }
+        check_line(&self.way)?;
         let way = mem::replace(&mut self.way, Path::new(alloc));
         self.figure.lines.push(way)?;
         Ok(())
     }
 
     /// Ends a shell.
-    fn end_shell(&mut self, alloc: Global) -> Result<(), Stop>
+    fn end_shell(&mut self, alloc: Global) -> Result<(), WktKind>
         ensures done { IfOk result (λ _. end_shell self.old ≡ Ok self.new) }
-        ensures stop { IfErr result (λ e. StopsAt e (end_shell self.old)) }
+        ensures fault { IfErr result (λ k. end_shell self.old ≡ Err k) }
     {
-        if let Some(kind) = ring_fault(&self.way) {
-            return Err(Stop::Fault(kind));
-        }
+        check_ring(&self.way)?;
         let way = mem::replace(&mut self.way, Path::new(alloc));
         self.shell = Some(way);
         Ok(())
@@ -218,18 +241,15 @@ impl Build {
         ensures done { IfOk result (λ _. end_hole self.old ≡ Ok self.new) }
         ensures stop { IfErr result (λ e. StopsAt e (end_hole self.old)) }
     {
-        if let Some(kind) = ring_fault(&self.way) {
-            return Err(Stop::Fault(kind));
-        }
+        check_ring(&self.way)?;
         let way = mem::replace(&mut self.way, Path::new(alloc));
         self.holes.push(way)?;
         Ok(())
     }
 
     /// Ends a polygon.
-    fn end_area(&mut self, alloc: Global) -> Result<(), Stop>
-        ensures done { IfOk result (λ _. end_area self.old ≡ Ok self.new) }
-        ensures stop { IfErr result (λ e. StopsAt e (end_area self.old)) }
+    fn end_area(&mut self, alloc: Global) -> Result<(), NoMemory>
+        ensures done { IfOk result (λ _. self.new ≡ with_area self.old self.old.shell) }
     {
         if let Some(shell) = self.shell.take() {
             let holes = mem::replace(&mut self.holes, Paths::new(alloc));
@@ -247,26 +267,28 @@ impl Build {
     ///
     /// # Errors
     /// The fault of the token, or `NoMemory`.
-    #[tactic(auto, unfolding(crate::specs::Rules::act))]
+    #[tactic(auto, unfolding(crate::specs::Building::act))]
     pub fn act(&mut self, alloc: Global, role: Role, token: Token) -> Result<(), Stop>
+        requires counted { IsCounted self.old }
         ensures done { IfOk result (λ _. act self.old role token ≡ Ok self.new) }
         ensures stop { IfErr result (λ e. StopsAt e (act self.old role token)) }
+        ensures memory { IfErr result (λ e. IsWantFor e role) }
     {
         match role {
             Role::Head | Role::Mark => Ok(()),
-            Role::Deep => Err(Stop::Fault(WktKind::Deep)),
-            Role::Group => self.begin_group(),
-            Role::X => self.take_x(token),
+            Role::Deep => Err(WktKind::Deep.into()),
+            Role::Group => {
+                self.begin_group();
+                Ok(())
+            }
+            Role::X => Ok(self.take_x(token)?),
             Role::PointY => self.take_point(token),
             Role::WayY => self.take_way(token),
-            Role::Demanded | Role::Further => match drop_fault(token) {
-                Some(kind) => Err(Stop::Fault(kind)),
-                None => Ok(()),
-            },
+            Role::Demanded | Role::Further => Ok(check_dropped(token)?),
             Role::EndLine => self.end_line(alloc),
-            Role::EndShell => self.end_shell(alloc),
+            Role::EndShell => Ok(self.end_shell(alloc)?),
             Role::EndHole => self.end_hole(alloc),
-            Role::EndArea => self.end_area(alloc),
+            Role::EndArea => Ok(self.end_area(alloc)?),
         }
     }
 }

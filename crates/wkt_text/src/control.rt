@@ -1,110 +1,13 @@
 ghost use Rattle.std.specs.Prelude.{◌≡◌, ◌≤◌, ◌⊎◌, IfSome};
-ghost use Rattle.wkt_text.specs.Machine.{is_done, to, outer, ended, opened, at_start, at_body, inner, after_gap, at_item, second_role, end_role, after_close, after_comma, at_after, more_role, at_more, after_two, at_tag, at_first, at_second, advance, refused_kind};
+ghost use Rattle.wkt_text.specs.Limits.{most_depth};
+ghost use Rattle.wkt_text.specs.Machine.{opened, at_start, at_body, inner, after_gap, at_item, second_role, end_role, after_close, after_comma, at_after, more_role, at_more, after_two, at_tag, at_first, at_second, advance, refused_kind};
 
+use crate::state::{Control, Membership, RingKind, Rings, Role, Site, Step};
 use crate::token::Token;
 use crate::word::{Tag, TypeWord};
 
-/// What a token is for: what is to be done with it, and which rule it has to keep.
-#[derive(Clone, Copy, Debug, PartialEq, Eq)]
-pub enum Role {
-    /// A type word.
-    Head,
-    /// The type word of a collection that is nested too deep.
-    Deep,
-    /// A token with no rule of its own.
-    Mark,
-    /// The bracket in which the areas of one group follow.
-    Group,
-    /// A first ordinate.
-    X,
-    /// The second ordinate of a loose point.
-    PointY,
-    /// The second ordinate of a position on a line or a ring.
-    WayY,
-    /// A third or fourth ordinate that the tag demands.
-    Demanded,
-    /// A third or fourth ordinate where there is no tag.
-    Further,
-    /// The end of a line.
-    EndLine,
-    /// The end of a shell.
-    EndShell,
-    /// The end of a hole.
-    EndHole,
-    /// The end of a polygon that has a shell.
-    EndArea,
-}
-
-/// What the next ring of a polygon is.
-#[derive(Clone, Copy, Debug, PartialEq, Eq)]
-pub enum Rings {
-    /// The shell.
-    Shell,
-    /// A hole.
-    Hole,
-    /// After an EMPTY shell: EMPTY.
-    Hollow,
-}
-
-/// The innermost open bracket, but for those of collections. Parts of a MULTI type are marked by `true`.
-#[derive(Clone, Copy, Debug, PartialEq, Eq)]
-pub enum Site {
-    /// None.
-    Top,
-    /// Of a POINT.
-    Point,
-    /// Of a line.
-    Line(bool),
-    /// Of a MULTIPOINT.
-    Points,
-    /// Of one element of a MULTIPOINT.
-    Element,
-    /// Of a MULTILINESTRING.
-    Lines,
-    /// Of a polygon.
-    Polygon(bool, Rings),
-    /// Of a ring: in a MULTIPOLYGON, and a hole.
-    Ring(bool, bool),
-    /// Of a MULTIPOLYGON.
-    Polygons,
-}
-
-/// What is expected next.
-#[derive(Clone, Copy, Debug, PartialEq, Eq)]
-pub enum Step {
-    /// A type word.
-    Start,
-    /// After a type word without a tag: a tag or a body.
-    Tagged(TypeWord),
-    /// A body.
-    Body(TypeWord),
-    /// An item of the open bracket that is no position.
-    Item,
-    /// A first ordinate.
-    First,
-    /// A second ordinate.
-    Second,
-    /// What follows two ordinates.
-    Two,
-    /// What follows three ordinates of which the last isn't the last that may be.
-    Three,
-    /// What follows an item of the open bracket.
-    After,
-    /// What follows a position that is full.
-    Full,
-    /// Nothing: the geometry has ended.
-    Done,
-}
-
-/// Where the reader is.
-#[derive(Clone, Copy, Debug, PartialEq, Eq)]
-pub struct Control {
-    pub step: Step,
-    pub site: Site,
-    /// How many collections are open, with the one whose type word was the last.
-    pub depth: u32,
-    pub tag: Tag,
-}
+/// How deep collections may be nested.
+const DEPTH: u32 = 32;
 
 /// The fault of a token.
 #[derive(Clone, Copy, Debug, PartialEq, Eq)]
@@ -133,61 +36,11 @@ pub enum WktKind {
     TooMany,
 }
 
-impl Control {
-    /// Before a geometry.
-    pub const START: Control = Control {
-        step: Step::Start,
-        site: Site::Top,
-        depth: 0,
-        tag: Tag::Plain,
-    };
-
-    /// Whether the geometry has ended.
-    pub fn is_done(self) -> bool
-        ensures done { result ≡ is_done self.step }
-    {
-        match self.step {
-            Step::Done => true,
-            _ => false,
-        }
-    }
-
-    /// How many collections are open once one is closed.
-    fn outer(self) -> u32
-        ensures next { result ≡ outer self.depth }
-        ensures shallow { result ≤ self.depth }
-    {
-        match self.depth {
-            0 => 0,
-            depth => depth - 1,
-        }
-    }
-
-    fn to(self, step: Step, site: Site) -> Control
-        ensures next { result ≡ to self step site }
-    {
-        Control { step, site, ..self }
-    }
-
-    /// After a geometry that is in so many collections.
-    fn ended(self, depth: u32) -> Control
-        ensures next { result ≡ ended self depth }
-    {
-        let step = if depth == 0 { Step::Done } else { Step::After };
-        Control {
-            step,
-            site: Site::Top,
-            depth,
-            tag: self.tag,
-        }
-    }
-}
-
 /// At a type word.
 fn at_start(c: Control, token: Token) -> Option<(Role, Control)>
-    requires { c.depth ≤ 32 }
+    requires shallow { c.depth ≤ most_depth }
     ensures next { result ≡ at_start c token }
-    ensures shallow { IfSome result (λ r. (r.0 ≡ Role.Deep) ⊎ (r.1.depth ≤ 32)) }
+    ensures shallow { IfSome result (λ r. (r.0 ≡ Role.Deep) ⊎ (r.1.depth ≤ most_depth)) }
 {
     let Token::Type(kind, tag) = token else {
         return None;
@@ -200,7 +53,11 @@ fn at_start(c: Control, token: Token) -> Option<(Role, Control)>
     if kind != TypeWord::GeometryCollection {
         return Some((Role::Head, Control { step, tag, ..c }));
     }
-    let role = if c.depth < 32 { Role::Head } else { Role::Deep };
+    let role = if c.depth < DEPTH {
+        Role::Head
+    } else {
+        Role::Deep
+    };
     let next = Control {
         step,
         tag,
@@ -217,10 +74,10 @@ fn opened(c: Control, kind: TypeWord) -> (Role, Control)
 {
     match kind {
         TypeWord::Point => (Role::Mark, c.to(Step::First, Site::Point)),
-        TypeWord::LineString => (Role::Mark, c.to(Step::First, Site::Line(false))),
+        TypeWord::LineString => (Role::Mark, c.to(Step::First, Site::Line(Membership::Alone))),
         TypeWord::Polygon => (
             Role::Group,
-            c.to(Step::Item, Site::Polygon(false, Rings::Shell)),
+            c.to(Step::Item, Site::Polygon(Membership::Alone, Rings::Shell)),
         ),
         TypeWord::MultiPoint => (Role::Mark, c.to(Step::Item, Site::Points)),
         TypeWord::MultiLineString => (Role::Mark, c.to(Step::Item, Site::Lines)),
@@ -251,10 +108,10 @@ fn inner(site: Site) -> Option<(Step, Site)>
 {
     match site {
         Site::Points => Some((Step::First, Site::Element)),
-        Site::Lines => Some((Step::First, Site::Line(true))),
-        Site::Polygons => Some((Step::Item, Site::Polygon(true, Rings::Shell))),
-        Site::Polygon(many, Rings::Shell) => Some((Step::First, Site::Ring(many, false))),
-        Site::Polygon(many, Rings::Hole) => Some((Step::First, Site::Ring(many, true))),
+        Site::Lines => Some((Step::First, Site::Line(Membership::Member))),
+        Site::Polygons => Some((Step::Item, Site::Polygon(Membership::Member, Rings::Shell))),
+        Site::Polygon(many, Rings::Shell) => Some((Step::First, Site::Ring(many, RingKind::Shell))),
+        Site::Polygon(many, Rings::Hole) => Some((Step::First, Site::Ring(many, RingKind::Hole))),
         _ => None,
     }
 }
@@ -301,8 +158,8 @@ fn end_role(site: Site) -> Role
 {
     match site {
         Site::Line(_) => Role::EndLine,
-        Site::Ring(_, false) => Role::EndShell,
-        Site::Ring(_, true) => Role::EndHole,
+        Site::Ring(_, RingKind::Shell) => Role::EndShell,
+        Site::Ring(_, RingKind::Hole) => Role::EndHole,
         Site::Polygon(_, Rings::Hole) => Role::EndArea,
         _ => Role::Mark,
     }
@@ -315,10 +172,10 @@ fn after_close(c: Control) -> Control
 {
     match c.site {
         Site::Top => c.ended(c.outer()),
-        Site::Line(true) => c.to(Step::After, Site::Lines),
+        Site::Line(Membership::Member) => c.to(Step::After, Site::Lines),
         Site::Element => c.to(Step::After, Site::Points),
         Site::Ring(many, _) => c.to(Step::After, Site::Polygon(many, Rings::Hole)),
-        Site::Polygon(true, _) => c.to(Step::After, Site::Polygons),
+        Site::Polygon(Membership::Member, _) => c.to(Step::After, Site::Polygons),
         _ => c.ended(c.depth),
     }
 }
@@ -425,9 +282,9 @@ fn at_second(c: Control, token: Token) -> Option<(Role, Control)>
 /// What a token is for, and what comes after it, or None where it isn't allowed.
 #[tactic(auto, unfolding(crate::specs::Machine::advance))]
 pub fn advance(c: Control, token: Token) -> Option<(Role, Control)>
-    requires { c.depth ≤ 32 }
+    requires shallow { c.depth ≤ most_depth }
     ensures next { result ≡ advance c token }
-    ensures shallow { IfSome result (λ r. (r.0 ≡ Role.Deep) ⊎ (r.1.depth ≤ 32)) }
+    ensures shallow { IfSome result (λ r. (r.0 ≡ Role.Deep) ⊎ (r.1.depth ≤ most_depth)) }
 {
     match c.step {
         Step::Start => at_start(c, token),

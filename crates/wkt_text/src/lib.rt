@@ -7,6 +7,7 @@ mod number;
 mod read;
 mod runs;
 mod scale;
+mod state;
 #[cfg(test)]
 mod tests;
 mod text;

@@ -1,6 +1,7 @@
 ghost use Rattle.std.specs.Prelude.{◌≡◌, ◌<◌, ◌≤◌, ◌+◌, ◌-◌, ◌*◌, ◌^◌, ◌++◌, IsTrue, ◌&&◌, nat_lt, length};
 ghost use Rattle.std.specs.List.{list_all, fold};
 ghost use Rattle.std.specs.Char.{is_ascii_digit};
+ghost use Rattle.wkt_text.specs.Limits.{most_bytes};
 ghost use Rattle.wkt_text.specs.Numbers.{mantissa, after_mantissa, whole_part, fraction_part, unsigned, is_minus, is_zero, is_exponent, exponent_size, is_exponent_minus, up_of, down_of, numeral_of, read_on, capped, kept_value, judged};
 
 use crate::runs::{Class, run_end};
@@ -22,8 +23,11 @@ pub enum Numeral {
     Whole(i64),
 }
 
+/// The most bytes that a number may have.
+const LONGEST: usize = 64;
+
 /// One more than the greatest size of a value: all greater values are taken for this one.
-const CAP: u32 = 1_048_576;
+const CAP: u32 = LIMIT as u32 + 1;
 
 /// Exponents from here on are taken for this one: it moves the point past all digits.
 const FAR: u32 = 1000;
@@ -103,7 +107,7 @@ fn read_on(cap: u32, start: u32, text: &[u8]) -> u32
 
 /// Whether the exponent is negative, and its size up to `FAR`.
 fn exponent_of(text: &[u8]) -> (bool, u32)
-    requires { IsTrue (is_exponent text.now) }
+    requires formed { IsTrue (is_exponent text.now) }
     ensures minus { result.0 ≡ is_exponent_minus text.now }
     ensures size { result.1 ≡ capped FAR (exponent_size text.now) }
     ensures near { result.1 ≤ FAR }
@@ -117,7 +121,7 @@ fn exponent_of(text: &[u8]) -> (bool, u32)
 /// The shift by an exponent and a scale of digits of which `places` stand after the point.
 fn shift_by(minus: bool, size: u32, places: usize, scale: Scale) -> Shift
     requires near { size ≤ FAR }
-    requires few { places ≤ 64 }
+    requires few { places ≤ most_bytes }
     ensures zeros { result.zeros ≡ up_of minus size scale.digits - down_of minus size places }
     ensures dropped { result.dropped ≡ down_of minus size places - up_of minus size scale.digits }
 {
@@ -136,7 +140,7 @@ fn shift_by(minus: bool, size: u32, places: usize, scale: Scale) -> Shift
 
 /// The number with so many zeros after it, or the cap where it is greater.
 fn lengthen(start: u32, zeros: usize) -> u32
-    requires { start ≤ CAP }
+    requires small { start ≤ CAP }
     ensures size { result ≡ capped CAP (start * 10 ^ zeros) }
 {
     let mut size = start;
@@ -151,7 +155,7 @@ fn lengthen(start: u32, zeros: usize) -> u32
 
 /// The value of the digits under a shift, up to the cap, or None where it isn't whole.
 fn kept_value(whole: &[u8], fraction: &[u8], shift: Shift) -> Option<u32>
-    requires few { length whole.now + length fraction.now ≤ 64 }
+    requires few { length whole.now + length fraction.now ≤ most_bytes }
     requires whole { IsTrue (list_all is_ascii_digit whole.now) }
     requires fraction { IsTrue (list_all is_ascii_digit fraction.now) }
     ensures value { result ≡ kept_value (whole.now ++ fraction.now) (length whole.now + length fraction.now - shift.dropped) shift.zeros }
@@ -209,7 +213,7 @@ fn split_point(mantissa: &[u8]) -> (&[u8], &[u8])
 pub fn read_number(text: &[u8], scale: Scale) -> Numeral
     ensures numeral { result ≡ numeral_of scale.digits text.now }
 {
-    if text.len() > 64 {
+    if text.len() > LONGEST {
         return Numeral::Long;
     }
     let (mantissa, exponent) = split_mantissa(skip_sign(text));

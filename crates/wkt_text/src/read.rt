@@ -1,15 +1,18 @@
 ghost use Rattle.std.specs.Prelude.{◌≡◌, ℕ, ◌≤◌, IfOk, IfErr, IfSome, IfNone, length};
 ghost use Rattle.point_set.specs.declared.figure.Figure.{Figure};
 ghost use Rattle.point_set.specs.Shape.{IsWellShaped};
+ghost use Rattle.wkt_text.specs.Limits.{most_depth};
+ghost use Rattle.wkt_text.specs.Building.{IsCounted};
 ghost use Rattle.wkt_text.specs.Faults.{Reads, IsOnlyWhite, FirstFault};
 ghost use Rattle.wkt_text.specs.declared.control.WktKind.{WktKind};
 ghost use Rattle.wkt_text.specs.Results.{IsFirstFault, IsReadAs, IsFaultAt};
 ghost use Rattle.wkt_text.specs.Reading.{IsTaken, FailsAt};
 
-use crate::build::{Build, Stop};
-use crate::control::{Control, WktKind, advance, refused_kind};
+use crate::build::Build;
+use crate::control::{WktKind, advance, refused_kind};
 use crate::runs::{Class, run_end};
 use crate::scale::Scale;
+use crate::state::Control;
 use crate::token::{Lexeme, next_token};
 use point_set::Figure;
 use std::alloc::Global;
@@ -42,19 +45,19 @@ fn take(
     control: Control,
     lexeme: Lexeme,
 ) -> Result<Control, WktFault>
-    requires { control.depth ≤ 32 }
+    requires shallow { control.depth ≤ most_depth }
+    requires counted { IsCounted build.old }
     ensures taken { IfOk result (λ c. IsTaken control build.old lexeme.token c build.new) }
     ensures fault { IfErr result (λ e. FailsAt e lexeme.start control build.old lexeme.token) }
-    ensures shallow { IfOk result (λ c. c.depth ≤ 32) }
+    ensures shallow { IfOk result (λ c. c.depth ≤ most_depth) }
 {
     let Some((role, next)) = advance(control, lexeme.token) else {
         return Err(WktFault::Bad(refused_kind(control, lexeme.token), lexeme.start));
     };
-    match build.act(alloc, role, lexeme.token) {
-        Ok(()) => Ok(next),
-        Err(Stop::Fault(kind)) => Err(WktFault::Bad(kind, lexeme.start)),
-        Err(Stop::NoMemory) => Err(WktFault::NoMemory),
-    }
+    build
+        .act(alloc, role, lexeme.token)
+        .map_err(|stop| stop.at(lexeme.start))?;
+    Ok(next)
 }
 
 /// Reads the geometry whose first token is the first from `at` on.
@@ -89,7 +92,7 @@ pub fn read_next(
     at: usize,
     scale: Scale,
 ) -> Result<Option<Parsed>, WktFault>
-    requires { at ≤ length bytes.now }
+    requires within { at ≤ length bytes.now }
     // Some: there stands the text of a geometry in which every rule is kept, and this is its figure. It is the only one.
     ensures read { IfOk result (λ found. IfSome found (λ p. Reads scale.digits bytes.now at p.figure p.end)) }
     ensures shaped { IfOk result (λ found. IfSome found (λ p. IsWellShaped p.figure)) }

@@ -43,7 +43,7 @@ impl Class {
 /// The place of the first byte from `at` on that isn't of the class.
 #[inline(always)]
 pub fn run_end(bytes: &[u8], at: usize, class: Class) -> usize
-    requires { at ≤ length bytes.now }
+    requires within { at ≤ length bytes.now }
     ensures end { result ≡ at + prefix_len (in_class class) (drop at bytes.now) }
     ensures within { result ≤ length bytes.now }
     ensures onward { at ≤ result }

@@ -131,7 +131,7 @@ fn token_in(text: &[u8], scale: Scale) -> (Token, usize)
 /// The first token from `at` on.
 #[tactic(auto, unfolding(crate::specs::Tokens::lexeme_at))]
 pub fn next_token(bytes: &[u8], at: usize, scale: Scale) -> Lexeme
-    requires { at ≤ length bytes.now }
+    requires within { at ≤ length bytes.now }
     ensures token { result ≡ lexeme_at scale.digits bytes.now at }
     ensures within { result.end ≤ length bytes.now }
     ensures onward { at ≤ result.end }

@@ -102,7 +102,7 @@ pub fn type_of(word: &[u8]) -> Option<(TypeWord, Tag)>
 
 /// The letters from the first byte after white space on.
 fn first_word(bytes: &[u8], at: usize) -> &[u8]
-    requires { at ≤ length bytes.now }
+    requires within { at ≤ length bytes.now }
     ensures word { result.now ≡ take_while (in_class Class.Letter) (from_token bytes.now at) }
 {
     let start = run_end(bytes, at, Class::White);
@@ -112,7 +112,7 @@ fn first_word(bytes: &[u8], at: usize) -> &[u8]
 
 /// The type that the first token from `at` on names, where it is a type word, with or without a joined tag.
 pub fn type_word(bytes: &[u8], at: usize) -> Option<TypeWord>
-    requires { at ≤ length bytes.now }
+    requires within { at ≤ length bytes.now }
     ensures kind { result ≡ type_at bytes.now at }
 {
     type_of(first_word(bytes, at)).map(|named| named.0)

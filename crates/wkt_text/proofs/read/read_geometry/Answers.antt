@@ -1,8 +1,11 @@
 use Rattle.std.proofs.Common.{◌≡◌, sym, ◌∙◌, arith}
 use Rattle.std.proofs.lemmas.Result.{err_from_is_err_and}
 use Rattle.wkt_text.specs.Tokens.{lexeme_at}
-use Rattle.wkt_text.proofs.Progress.{so_far_more, so_far_stop, so_far_reads, taken_moves, done_from, not_done_from}
+use Rattle.wkt_text.proofs.Progress.{so_far_more, so_far_stop, so_far_reads, so_far_counted, taken_moves, done_from, not_done_from}
 use Rattle.wkt_text.proofs.read.read_geometry.Goals as goal
+
+pub take-requires-clause-counted : goal.take-requires-clause-counted
+take-requires-clause-counted c = so_far_counted c.args.scale.digits c.args.bytes.now c.args.at c.tokens.place c.tokens.control _ c.tokens.invariant.so_far
 
 pub returns-in_err-control-clause-fault : goal.returns-in_err-control-clause-fault
 returns-in_err-control-clause-fault c =
