@@ -1,6 +1,6 @@
 -- Calls that are numbered from 1, some of which fail by their numbers.
 use Rattle.std.specs.Prelude.{Contains}
-use Rattle.geosop_io.specs.Faults.{one_more}
+use Rattle.geosop_io.specs.Counts.{one_more}
 use Rattle.geosop_io.specs.declared.calls.Calls.{Calls}
 
 -- The next call is one that fails.

@@ -1,9 +1,10 @@
 pub mod Calls
+pub mod Counts
 pub mod Cursors
-pub mod Faults
 pub mod FileInputs
-pub mod Known
+pub mod Inputs
 pub mod MemInputs
 pub mod MemSink
 pub mod Pairs
-pub mod Sides
+pub mod PerSide
+pub mod Sink

@@ -1,6 +1,7 @@
 -- A sink over memory, as its callers see it.
-use Rattle.std.specs.Prelude.{◌≡◌, ℕ, ◌-◌, min, List, ◌++◌, length, take, ◌⊎◌}
+use Rattle.std.specs.Prelude.{◌≡◌, ℕ, ◌-◌, min, List, ◌++◌, length, take, Some, ◌⊎◌}
 use Rattle.geosop_io.specs.Calls.{IsNextFailing, after_call, after_fault}
+use Rattle.geosop_io.specs.Sink.{SinkSeen}
 use Rattle.geosop_io.specs.declared.calls.Calls.{Calls}
 
 -- The bytes taken, how many there is room for in all, and the writes.
@@ -8,6 +9,10 @@ pub record MemTaken : Type 0 where
   pub taken : List ℕ
   pub room : ℕ
   pub calls : Calls
+
+-- What contracts of `Sink` see of it.
+abbrev pub seen_of : MemTaken → SinkSeen
+seen_of sink = record { taken = Some sink.taken; faults = sink.calls.faults }
 
 -- A write fails: by its number, or because no room is left.
 abbrev pub WriteFails : MemTaken → Type 0

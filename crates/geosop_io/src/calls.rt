@@ -12,7 +12,7 @@ pub struct Calls {
 }
 
 impl Calls {
-    ghost use Rattle.geosop_io.specs.Faults.{one_more};
+    ghost use Rattle.geosop_io.specs.Counts.{one_more};
     ghost use Rattle.geosop_io.specs.Calls.{IsNextFailing, after_call};
 
     /// No calls so far.

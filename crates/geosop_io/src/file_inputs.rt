@@ -1,10 +1,11 @@
-ghost use Rattle.std.specs.Prelude.{◌≡◌, ◌≤◌, false, true, length, None, is_some, IfOk};
-ghost use Rattle.geosop_io.specs.Faults.{one_more};
-ghost use Rattle.geosop_io.specs.Sides.{on_side};
-ghost use Rattle.geosop_io.specs.FileInputs.{FileSources};
+ghost use Rattle.std.specs.Prelude.{◌≡◌, ◌<◌, ◌≤◌, ◌^◌, ◌||◌, false, true, length, None, is_some, IfOk};
+ghost use Rattle.geosop_io.specs.Counts.{one_more, more_by};
+ghost use Rattle.geosop_io.specs.Inputs.{meets_end};
+ghost use Rattle.geosop_io.specs.PerSide.{on_side, with_side};
+ghost use Rattle.geosop_io.specs.FileInputs.{seen_of};
 
-use crate::inputs::Inputs;
-use crate::sides::PerSide;
+use crate::inputs::{Inputs, is_end};
+use crate::per_side::PerSide;
 use crate::sink::Failed;
 use crate::word::Word;
 use im_matrix::Which;
@@ -47,9 +48,9 @@ fn read_opened<R: Files + Input>(
     source: &mut Option<Opened<R>>,
     buf: &mut [u8],
 ) -> io::Result<usize>
-    requires { is_some source.old ≡ true }
+    requires opened { is_some source.old ≡ true }
     ensures bound { IfOk result (λ count. count ≤ length buf.old) }
-    ensures opened { is_some source.new ≡ true }
+    ensures stays { is_some source.new ≡ true }
 {
     match source {
         Some(opened) => opened.read(buf),
@@ -64,6 +65,8 @@ pub struct FileInputs<'a, R: Files + Input> {
     rt: &'a R,
     asked: PerSide<Option<Word>>,
     opened: PerSide<Option<Opened<R>>>,
+    given: PerSide<u64>,
+    ended: PerSide<bool>,
     faults: u64,
 }
 
@@ -76,6 +79,8 @@ impl<'a, R: Files + Input> Model for FileInputs<'a, R> {
     ghost view = { λ s. record {
       asked = s.asked;
       started = record { a = is_some s.opened.a; b = is_some s.opened.b };
+      given = s.given;
+      ended = s.ended;
       faults = s.faults;
     } };
 
@@ -88,6 +93,8 @@ impl<'a, R: Files + Input> FileInputs<'a, R> {
         ensures fresh { result ≡ record {
           asked = record { a = None; b = None };
           started = record { a = false; b = false };
+          given = record { a = 0; b = 0 };
+          ended = record { a = false; b = false };
           faults = 0;
         } }
     {
@@ -95,6 +102,8 @@ impl<'a, R: Files + Input> FileInputs<'a, R> {
             rt,
             asked: PerSide { a: None, b: None },
             opened: PerSide { a: None, b: None },
+            given: PerSide { a: 0, b: 0 },
+            ended: PerSide { a: false, b: false },
             faults: 0,
         }
     }
@@ -107,18 +116,36 @@ impl<'a, R: Files + Input> FileInputs<'a, R> {
         self.faults = self.faults.saturating_add(1);
         Failed
     }
+
+    /// Reads from a side that was started.
+    fn read_started(&mut self, side: Which, buf: &mut [u8]) -> io::Result<usize>
+        requires started { on_side self.old.started side ≡ true }
+        ensures bound { IfOk result (λ count. count ≤ length buf.old) }
+        ensures kept { self.new ≡ self.old }
+    {
+        match side {
+            Which::A => read_opened(&mut self.opened.a, buf),
+            Which::B => read_opened(&mut self.opened.b, buf),
+        }
+    }
+
+    /// Notes that a read into a buffer of this length gave so many bytes of a side.
+    fn note_read(&mut self, side: Which, count: usize, room: usize)
+        ensures noted { self.new ≡ record self.old {
+          given = with_side self.old.given side (more_by count (on_side self.old.given side));
+          ended = with_side self.old.ended side (on_side self.old.ended side || meets_end count room);
+        } }
+        ensures ends { self.new.faults < 2 ^ 64 }
+    {
+        let given = self.given.get(side).saturating_add(count as u64);
+        let ended = *self.ended.get(side) || is_end(count, room);
+        self.given.set(side, given);
+        self.ended.set(side, ended);
+    }
 }
 
 impl<'a, R: Files + Input> Inputs for FileInputs<'a, R> {
-    ghost holds = { λ s name. None };
-
-    ghost asked = { λ s side. on_side s.asked side };
-
-    ghost started = { λ s side. on_side s.started side };
-
-    ghost left = { λ s side. None };
-
-    ghost faults = { λ s. s.faults };
+    ghost seen = { seen_of };
 
     fn start(&mut self, side: Which, name: Word) -> Result<(), Failed> {
         let opened = Opened::open(self.rt, name.as_str());
@@ -126,6 +153,8 @@ impl<'a, R: Files + Input> Inputs for FileInputs<'a, R> {
         match opened {
             Ok(opened) => {
                 self.opened.set(side, Some(opened));
+                self.given.set(side, 0);
+                self.ended.set(side, false);
                 Ok(())
             }
             Err(_) => Err(self.fault()),
@@ -133,12 +162,11 @@ impl<'a, R: Files + Input> Inputs for FileInputs<'a, R> {
     }
 
     fn read(&mut self, side: Which, buf: &mut [u8]) -> Result<usize, Failed> {
-        let given = match side {
-            Which::A => read_opened(&mut self.opened.a, buf),
-            Which::B => read_opened(&mut self.opened.b, buf),
-        };
-        match given {
-            Ok(count) => Ok(count),
+        match self.read_started(side, buf) {
+            Ok(count) => {
+                self.note_read(side, count, buf.len());
+                Ok(count)
+            }
             Err(_) => Err(self.fault()),
         }
     }

@@ -8,7 +8,7 @@ mod inputs;
 mod mem_inputs;
 mod mem_sink;
 mod named;
-mod sides;
+mod per_side;
 mod sink;
 mod std_sink;
 mod word;

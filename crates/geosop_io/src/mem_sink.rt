@@ -1,5 +1,5 @@
 ghost use Rattle.std.specs.Prelude.{◌≡◌, ◌<◌, ◌≤◌, ◌^◌, List, [], length, Some, IfOk, OnErr, IsErr, ◌↔◌};
-ghost use Rattle.geosop_io.specs.MemSink.{MemTaken, WriteFails, fitting, after_write, after_failed_write};
+ghost use Rattle.geosop_io.specs.MemSink.{seen_of, WriteFails, fitting, after_write, after_failed_write};
 
 use crate::calls::Calls;
 use crate::sink::{Failed, Sink};
@@ -56,14 +56,12 @@ impl MemSink {
 }
 
 impl Sink for MemSink {
-    ghost taken = { λ s. Some s.taken };
-
-    ghost faults = { λ s. s.calls.faults };
+    ghost seen = { seen_of };
 
     /// Takes as much of the piece as there is room for. It fails by its number, and where no room
     /// is left.
     fn write(&mut self, piece: &[u8]) -> Result<usize, Failed>
-        requires { 0 < length piece.now }
+        requires nonempty { 0 < length piece.now }
         ensures failed { IsErr result ↔ WriteFails self.old }
         ensures count { IfOk result (λ count. count ≡ fitting self.old piece.now) }
         ensures after { IfOk result (λ count. self.new ≡ after_write self.old piece.now count) }

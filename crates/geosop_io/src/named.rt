@@ -71,7 +71,7 @@ impl NamedBytes {
 
     /// The bytes of the pair at a place.
     pub(crate) fn at(&self, place: usize) -> &[u8]
-        requires { place < length self.now }
+        requires within { place < length self.now }
         ensures bytes { result.now ≡ (slice_index_or self.now place ([], [])).1 }
     {
         self.pairs[place].bytes.as_slice()

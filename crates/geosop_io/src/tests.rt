@@ -1,9 +1,12 @@
+mod typed;
+
 use super::*;
 use im_matrix::Which;
 use plane_exact::PlaceList;
-use std::io;
-use std::io::Write;
+use std::io::{Read, Write};
 use std::test::*;
+use std::{fs, io, process};
+use typed::Typed;
 
 // Takes at most two bytes a call, nothing at its third call, and counts its flushes, of which the
 // second fails.
@@ -72,6 +75,67 @@ fn a_writer_that_fails_is_a_sink_that_fails(rt: HostRuntime) {
     }
 }
 
+// The name of a file for one test of this process.
+fn file_name(rt: &HostRuntime, test: &str) -> Result<String, Fail> {
+    let id = process::id(rt.process());
+    Ok(format!(in rt.alloc(); "/tmp/geosop_io_{test}_{id}")?)
+}
+
+#[test]
+fn a_file_gives_its_bytes_and_ends(rt: HostRuntime) -> Result<(), Fail> {
+    let path = file_name(&rt, "source")?;
+    fs::write(&rt, path.as_str(), "POINT (0 0)")?;
+    let name = Word::of(rt.alloc(), path.as_str())?;
+    let mut inputs = FileInputs::new(&rt);
+    let mut buf = [0u8; 8];
+    assert!(rt; inputs.start(Which::B, name).is_ok());
+    assert!(rt; inputs.read(Which::B, &mut buf) == Ok(8));
+    assert!(rt; buf == *b"POINT (0");
+    assert!(rt; inputs.read(Which::B, &mut buf) == Ok(3));
+    assert!(rt; &buf[..3] == b" 0)".as_slice());
+    assert!(rt; inputs.read(Which::B, &mut buf) == Ok(0));
+    fs::remove_file(&rt, path.as_str())?;
+    Ok(())
+}
+
+#[test]
+fn standard_input_has_the_name_stdin(rt: HostRuntime) -> Result<(), Fail> {
+    let typed = Typed { rt };
+    let mut inputs = FileInputs::new(&typed);
+    let mut buf = [0u8; 8];
+    let name = Word::of(rt.alloc(), "stdin")?;
+    assert!(rt; inputs.start(Which::A, name).is_ok());
+    assert!(rt; inputs.read(Which::A, &mut buf) == Ok(5));
+    assert!(rt; &buf[..5] == b"POINT".as_slice());
+    assert!(rt; inputs.read(Which::A, &mut buf) == Ok(0));
+    Ok(())
+}
+
+#[test]
+fn a_file_gets_the_bytes_of_a_sink(rt: HostRuntime) -> Result<(), Fail> {
+    let path = file_name(&rt, "sink")?;
+    let mut sink = StdSink::new(fs::create(&rt, path.as_str())?);
+    assert!(rt; offer_whole(&mut sink, b"FF0FFF0F2\n").is_ok());
+    assert!(rt; offer_whole(&mut sink, b"0FFFFFFF2\n").is_ok());
+    let text = fs::read_to_string(&rt, path.as_str())?;
+    assert!(rt; text.as_str() == "FF0FFF0F2\n0FFFFFFF2\n");
+    fs::remove_file(&rt, path.as_str())?;
+    Ok(())
+}
+
+#[test]
+fn a_pipe_gets_the_bytes_of_a_sink(rt: HostRuntime) -> Result<(), Fail> {
+    let (mut reader, writer) = io::pipe(&rt)?;
+    let mut sink = StdSink::new(writer);
+    assert!(rt; sink.write(b"true\n") == Ok(5));
+    let mut buf = [0u8; 8];
+    assert_eq!(rt; reader.read(&mut buf)?, 5);
+    assert!(rt; &buf[..5] == b"true\n".as_slice());
+    drop(reader);
+    assert!(rt; sink.write(b"true\n") == Err(Failed));
+    Ok(())
+}
+
 #[test]
 fn files_of_the_system(rt: HostRuntime) -> Result<(), Fail> {
     let alloc = rt.alloc();
@@ -90,8 +154,8 @@ fn files_of_the_system(rt: HostRuntime) -> Result<(), Fail> {
 fn a_folder_is_no_file(rt: HostRuntime) -> Result<(), Fail> {
     let folder = Word::of(rt.alloc(), "/")?;
     let mut inputs = FileInputs::new(&rt);
-    if inputs.start(Which::A, folder).is_ok() {
-        assert!(rt; inputs.read(Which::A, &mut [0; 4]).is_err());
-    }
+    let is_refused = inputs.start(Which::A, folder).is_err()
+        || inputs.read(Which::A, &mut [0; 4]).is_err();
+    assert!(rt; is_refused);
     Ok(())
 }

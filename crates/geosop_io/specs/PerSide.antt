@@ -1,7 +1,7 @@
 -- The two sides of a pair, and a value for each of them.
 use Rattle.im_matrix.specs.declared.Which.{Which}
 use Rattle.im_matrix.specs.declared.Which.TheVariants.{A, B}
-use Rattle.geosop_io.specs.declared.sides.PerSide.{PerSide}
+use Rattle.geosop_io.specs.declared.per_side.PerSide.{PerSide}
 
 -- The side that isn't this one.
 abbrev pub other : Which → Which

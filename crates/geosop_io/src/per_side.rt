@@ -10,7 +10,7 @@ pub struct PerSide<T> {
 }
 
 impl<T> PerSide<T> {
-    ghost use Rattle.geosop_io.specs.Sides.{on_side, with_side};
+    ghost use Rattle.geosop_io.specs.PerSide.{on_side, with_side};
 
     /// The value of a side.
     pub fn get(&self, side: Which) -> &T
