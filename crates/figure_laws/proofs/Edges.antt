@@ -1,2 +1,5 @@
 -- The edges of a figure with their owners.
 pub mod Owners
+pub mod Limits
+pub mod Windows
+pub mod Lines

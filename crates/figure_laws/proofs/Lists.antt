@@ -1,3 +1,4 @@
 -- Lists by places.
 pub mod Search
 pub mod Places
+pub mod Counts

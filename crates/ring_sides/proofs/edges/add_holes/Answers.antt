@@ -7,7 +7,8 @@ use Rattle.point_set.specs.Edges.{edges_of_area_rings, HasHand}
 use Rattle.point_set.specs.Rings.{edges_of}
 use Rattle.point_set.specs.Validity.{IsAtPlace}
 use Rattle.ring_sides.specs.Rows.{owned_edges}
-use Rattle.ring_sides.proofs.Rows.{item_at, area_read, rings_from, more_rows, more_hands, few_areas, few_holes, hole_has_hand, ring_enough, ring_simple, ring_later, holes_passed, of_area_at}
+use Rattle.figure_laws.proofs.Lists.Counts.{few_areas}
+use Rattle.ring_sides.proofs.Rows.{item_at, area_read, rings_from, more_rows, more_hands, few_holes, hole_has_hand, ring_enough, ring_simple, ring_later, holes_passed, of_area_at}
 use Rattle.ring_sides.proofs.edges.add_holes.Goals as goal
 
 pub overflow_cast-owner : goal.overflow_cast-owner

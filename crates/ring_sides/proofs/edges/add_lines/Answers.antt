@@ -5,7 +5,8 @@ use Rattle.point_set.specs.declared.figure.Figure.{Figure}
 use Rattle.point_set.specs.Edges.{edges_of_lines}
 use Rattle.point_set.specs.Rings.{edges_of}
 use Rattle.ring_sides.specs.Rows.{owned_edges}
-use Rattle.ring_sides.proofs.Rows.{item_at, lines_from, more_rows, more_hands, few_lines}
+use Rattle.figure_laws.proofs.Lists.Counts.{few_lines}
+use Rattle.ring_sides.proofs.Rows.{item_at, lines_from, more_rows, more_hands}
 use Rattle.ring_sides.proofs.edges.add_lines.Goals as goal
 
 pub overflow_cast-place : goal.overflow_cast-place
