@@ -87,9 +87,6 @@ few_holes f shaped place area is =
     omega (arith, few, own, holes)
 
 -- ---- what a pass reads
-pub item_at : {X : Type 0} (items xs : List X) (i : ℕ) (x : X) → items ≡ xs → i < length items → x ≡ get_or items i x → IsAtPlace xs i x
-item_at items xs i x same below is = subst (λ ys. IsAtPlace ys i x) same (slice_get_read items (length items) i x refl below is)
-
 -- what is said of the area at a place holds of every area there
 pub of_area_at : (P : Area → Type 0) (areas : List Area) (place : ℕ) (area : Area) → IsAtPlace areas place area → P area → (other : Area) → IsAtPlace areas place other → P other
 of_area_at P areas place area is held other is_other = subst P (some_same (sym is ∙ is_other)) held

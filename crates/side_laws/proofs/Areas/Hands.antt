@@ -3,7 +3,6 @@ use Rattle.std.proofs.Common.{◌≡◌, ◌⊎◌, inl, inr, ℕ, zero, suc, �
 use Rattle.std.specs.List.{All, list_any}
 use Rattle.std.specs.Prelude.{slice_get}
 use Rattle.std.proofs.lemmas.Bool.{or_parts, or_from, or_left, or_right, cases_eq, cases_order, false_from_ne_true}
-use Rattle.std.proofs.lemmas.Option.{get_or_from_slice_get, slice_get_within}
 use lib.IntN.{*ℤ-zero}
 use Rattle.im_matrix.specs.declared.Loc.TheVariants.{Exterior}
 use Rattle.whole_algebra.proofs.Laws.{linear}
@@ -28,7 +27,7 @@ use Rattle.point_set.specs.Sides.{slope, PointsTo, other_hand, IsInsideHand}
 use Rattle.point_set.specs.Edges.{IsOnEdgeAlone, IsAreaHand}
 use Rattle.ring_laws.proofs.Parity.Flip.{HasSign, signed_nonzero}
 use Rattle.ring_laws.proofs.Parity.Ring.{Misses, inside_stays}
-use Rattle.figure_laws.proofs.Lists.Places.{some_same}
+use Rattle.figure_laws.proofs.Lists.Places.{some_same, all_at}
 use Rattle.plane_laws.proofs.Near.Near.{IsNear, near_mix}
 use Rattle.ring_laws.proofs.Room.Edges.{HoldBoth, HasRoom, room}
 use Rattle.plane_laws.proofs.Near.Away.{away_point, away_point_is, away_near, far_for}
@@ -119,9 +118,6 @@ pub record AreRingsClean (area : Area) : Type 0 where
   pub unlapped : ¬ HasHolesThatOverlap area
 
 -- a valid figure's areas are so
-all_at : {X : Type 0} (P : X → Type 0) (xs : List X) (i : ℕ) (x : X) → All P xs → IsAtPlace xs i x → P x
-all_at P xs i x all is = subst P (get_or_from_slice_get xs i x x is) (all i x (slice_get_within xs i x is))
-
 pub area_shaped : (f : Figure) → IsWellShaped f → (place : ℕ) (area : Area) → IsAtPlace f.areas place area → IsAreaShaped area
 area_shaped f shaped place area is = all_at IsAreaShaped f.areas place area shaped.areas is
 
