@@ -3,3 +3,4 @@ pub mod Search
 pub mod Places
 pub mod Least
 pub mod Items
+pub mod Counts

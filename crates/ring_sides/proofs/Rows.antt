@@ -4,7 +4,6 @@ use Rattle.std.specs.List.{All}
 use Rattle.std.proofs.Math.Seq.{drop-cons}
 use Rattle.std.proofs.lemmas.Option.{slice_get_read, get_or_from_slice_get, slice_get_within}
 use Rattle.std.proofs.lemmas.List.{append_assoc, append-nil, map-append, drop_all}
-use Rattle.std.proofs.lemmas.List.Sums.{sum_by-cons}
 use Rattle.std.proofs.lemmas.List.Elements.{All-nil, All-cons, All-head, All-tail, All-append, All-same}
 use Rattle.plane_exact.specs.declared.point.Pt.{Pt}
 use Rattle.plane_exact.specs.declared.point.Seg.{Seg}
@@ -20,6 +19,7 @@ use Rattle.point_set.specs.Rings.{edges_of}
 use Rattle.point_set.specs.Shape.{IsWellShaped, positions_of_area}
 use Rattle.point_set.specs.Sides.{IsInsideHand, other_hand}
 use Rattle.point_set.specs.Validity.{IsAtPlace, IsValid, HasTooFewPoints, CrossesItself, too_few_points, ring_cross}
+use Rattle.figure_laws.proofs.Lists.Counts.{count_by_length, one_of_sum}
 use Rattle.figure_laws.proofs.Lists.Places.{some_same}
 use Rattle.side_laws.proofs.Areas.Hands.{area_shaped, area_clean, shell_hand, hole_hand}
 use Rattle.ring_sides.specs.Rows.{owned_edge, owned_edges, row_of, HasItsHand}
@@ -78,30 +78,7 @@ hole_has_hand f shaped valid place area is k hole is_hole side inside i e is_e o
     subst (λ a. IsAreaHand a e (other_hand side)) (some_same (sym is ∙ is_other))
     (hole_hand area (area_clean f shaped valid place area is) k hole is_hole side inside i e is_e)
 
--- ---- how many lines, areas and holes there are
-count_by_length : {X : Type 0} (size : X → ℕ) (xs : List X) → All (λ x. 1 ≤ size x) xs → length xs ≤ sum_by size xs
-count_by_length size [] all = omega arith
-count_by_length size (x ∷ xs) all =
-    let here : 1 ≤ size x = All-head (λ x. 1 ≤ size x) x xs all in
-    omega (arith, here, count_by_length size xs (All-tail (λ x. 1 ≤ size x) x xs all), sum_by-cons size x xs)
-
-one_of_sum : {X : Type 0} (size : X → ℕ) (xs : List X) (i : ℕ) (x : X) → IsAtPlace xs i x → size x ≤ sum_by size xs
-one_of_sum size [] i x is = cc
-one_of_sum size (y ∷ xs) zero x is = let same : size y ≡ size x = ap size (some_same is) in omega (arith, same, sum_by-cons size y xs)
-one_of_sum size (y ∷ xs) (suc i) x is = omega (arith, one_of_sum size xs i x is, sum_by-cons size y xs)
-
-pub few_lines : (f : Figure) → IsWellShaped f → length f.lines ≤ 1048576
-few_lines f shaped =
-    let few = shaped.few in
-    let lines = count_by_length length f.lines (λ i d below. let long = (shaped.lines i d below).long in omega (arith, long)) in
-    omega (arith, few, lines)
-
-pub few_areas : (f : Figure) → IsWellShaped f → length f.areas ≤ 1048576
-few_areas f shaped =
-    let few = shaped.few in
-    let areas = count_by_length positions_of_area f.areas (λ i d below. let long = (shaped.areas i d below).shell.long in omega (arith, long)) in
-    omega (arith, few, areas)
-
+-- ---- how many holes there are
 pub few_holes : (f : Figure) → IsWellShaped f → (place : ℕ) (area : Area) → IsAtPlace f.areas place area → length area.holes ≤ 1048576
 few_holes f shaped place area is =
     let few = shaped.few in
@@ -110,9 +87,6 @@ few_holes f shaped place area is =
     omega (arith, few, own, holes)
 
 -- ---- what a pass reads
-pub item_at : {X : Type 0} (items xs : List X) (i : ℕ) (x : X) → items ≡ xs → i < length items → x ≡ get_or items i x → IsAtPlace xs i x
-item_at items xs i x same below is = subst (λ ys. IsAtPlace ys i x) same (slice_get_read items (length items) i x refl below is)
-
 -- what is said of the area at a place holds of every area there
 pub of_area_at : (P : Area → Type 0) (areas : List Area) (place : ℕ) (area : Area) → IsAtPlace areas place area → P area → (other : Area) → IsAtPlace areas place other → P other
 of_area_at P areas place area is held other is_other = subst P (some_same (sym is ∙ is_other)) held

@@ -27,7 +27,7 @@ use Rattle.point_set.specs.Sides.{slope, PointsTo, other_hand, IsInsideHand}
 use Rattle.point_set.specs.Edges.{IsOnEdgeAlone, IsAreaHand}
 use Rattle.ring_laws.proofs.Parity.Flip.{HasSign, signed_nonzero}
 use Rattle.ring_laws.proofs.Parity.Ring.{Misses, inside_stays}
-use Rattle.figure_laws.proofs.Lists.Places.{some_same}
+use Rattle.figure_laws.proofs.Lists.Places.{some_same, all_at}
 use Rattle.plane_laws.proofs.Near.Near.{IsNear, near_mix}
 use Rattle.ring_laws.proofs.Room.Edges.{HoldBoth, HasRoom, room}
 use Rattle.plane_laws.proofs.Near.Away.{away_point, away_point_is, away_near, far_for}
@@ -121,6 +121,7 @@ pub record AreRingsClean (area : Area) : Type 0 where
   pub within : ¬ HasHoleOutside area
   pub unlapped : ¬ HasHolesThatOverlap area
 
+-- a valid figure's areas are so
 pub area_shaped : (f : Figure) → IsWellShaped f → (place : ℕ) (area : Area) → IsAtPlace f.areas place area → IsAreaShaped area
 area_shaped f shaped place area is = all_at IsAreaShaped f.areas place area shaped.areas is
 

@@ -6,7 +6,8 @@ use Rattle.point_set.specs.Edges.{edges_of_area_rings}
 use Rattle.point_set.specs.Location.{rings_of}
 use Rattle.point_set.specs.Rings.{edges_of}
 use Rattle.ring_sides.specs.Rows.{owned_edges}
-use Rattle.ring_sides.proofs.Rows.{area_read, few_areas, ring_enough, ring_simple, more_hands, shell_has_hand, shell_then_holes, of_area_at}
+use Rattle.figure_laws.proofs.Lists.Counts.{few_areas}
+use Rattle.ring_sides.proofs.Rows.{area_read, ring_enough, ring_simple, more_hands, shell_has_hand, shell_then_holes, of_area_at}
 use Rattle.ring_sides.proofs.edges.add_area.Goals as goal
 
 pub interior_side-side-requires-clause-enough : goal.interior_side-side-requires-clause-enough

@@ -7,7 +7,9 @@ use Rattle.point_set.specs.Edges.{edges_of_area_rings, HasHand}
 use Rattle.point_set.specs.Rings.{edges_of}
 use Rattle.point_set.specs.Validity.{IsAtPlace}
 use Rattle.ring_sides.specs.Rows.{owned_edges}
-use Rattle.ring_sides.proofs.Rows.{item_at, area_read, rings_from, more_rows, more_hands, few_areas, few_holes, hole_has_hand, ring_enough, ring_simple, ring_later, holes_passed, of_area_at}
+use Rattle.figure_laws.proofs.Lists.Places.{read_at}
+use Rattle.figure_laws.proofs.Lists.Counts.{few_areas}
+use Rattle.ring_sides.proofs.Rows.{area_read, rings_from, more_rows, more_hands, few_holes, hole_has_hand, ring_enough, ring_simple, ring_later, holes_passed, of_area_at}
 use Rattle.ring_sides.proofs.edges.add_holes.Goals as goal
 
 pub overflow_cast-owner : goal.overflow_cast-owner
@@ -27,13 +29,13 @@ pub interior_side-requires-clause-enough : goal.interior_side-requires-clause-en
 interior_side-requires-clause-enough c =
     let at = area_read c.figure.result.now c.args.v.now c.args.place c.at-area.result.now c.figure.ensures.same c.requires.place c.at-area.ensures.item in
     ring_enough c.args.v.now c.figure.ensures.valid c.args.place c.at-area.result.now at (c.loop-i.i + 1) c.hole-item.result
-    (ring_later c.at-area.result.now c.loop-i.i c.hole-item.result (item_at c.as_slice-hole-items.result.now c.at-area.result.now.holes c.loop-i.i c.hole-item.result c.as_slice-hole-items.ensures.items c.loop-i-test.true c.hole-item.is))
+    (ring_later c.at-area.result.now c.loop-i.i c.hole-item.result (read_at c.as_slice-hole-items.result.now c.at-area.result.now.holes c.loop-i.i c.hole-item.result c.as_slice-hole-items.ensures.items c.loop-i-test.true c.hole-item.is))
 
 pub interior_side-requires-clause-simple : goal.interior_side-requires-clause-simple
 interior_side-requires-clause-simple c =
     let at = area_read c.figure.result.now c.args.v.now c.args.place c.at-area.result.now c.figure.ensures.same c.requires.place c.at-area.ensures.item in
     ring_simple c.args.v.now c.figure.ensures.valid c.args.place c.at-area.result.now at (c.loop-i.i + 1) c.hole-item.result
-    (ring_later c.at-area.result.now c.loop-i.i c.hole-item.result (item_at c.as_slice-hole-items.result.now c.at-area.result.now.holes c.loop-i.i c.hole-item.result c.as_slice-hole-items.ensures.items c.loop-i-test.true c.hole-item.is))
+    (ring_later c.at-area.result.now c.loop-i.i c.hole-item.result (read_at c.as_slice-hole-items.result.now c.at-area.result.now.holes c.loop-i.i c.hole-item.result c.as_slice-hole-items.ensures.items c.loop-i-test.true c.hole-item.is))
 
 pub loop-i-preserved : goal.loop-i-preserved
 loop-i-preserved c =
@@ -42,7 +44,7 @@ loop-i-preserved c =
     let hole = c.hole-item.result in
     let i = c.loop-i.i in
     let place = c.args.place in
-    let own = item_at holes c.at-area.result.now.holes i hole c.as_slice-hole-items.ensures.items c.loop-i-test.true c.hole-item.is in
+    let own = read_at holes c.at-area.result.now.holes i hole c.as_slice-hole-items.ensures.items c.loop-i-test.true c.hole-item.is in
     let side = c.opposite-side.result in
     record {
       edges = more_rows (owned_edges c.args.rows.now ++ edges_of_area_rings place 1 holes) (edges_of_area_rings place (i + 1) (drop i holes))

@@ -5,7 +5,9 @@ use Rattle.point_set.specs.declared.figure.Figure.{Figure}
 use Rattle.point_set.specs.Edges.{edges_of_lines}
 use Rattle.point_set.specs.Rings.{edges_of}
 use Rattle.ring_sides.specs.Rows.{owned_edges}
-use Rattle.ring_sides.proofs.Rows.{item_at, lines_from, more_rows, more_hands, few_lines}
+use Rattle.figure_laws.proofs.Lists.Places.{read_at}
+use Rattle.figure_laws.proofs.Lists.Counts.{few_lines}
+use Rattle.ring_sides.proofs.Rows.{lines_from, more_rows, more_hands}
 use Rattle.ring_sides.proofs.edges.add_lines.Goals as goal
 
 pub overflow_cast-place : goal.overflow_cast-place
@@ -23,7 +25,7 @@ loop-place-preserved c =
     record {
       edges = more_rows (owned_edges c.args.rows.now ++ edges_of_lines 0 lines) (edges_of_lines place (drop place lines)) next c.loop-place.rows c.add_edges.new.rows
           (Line place) hand.Line (edges_of line) c.in_ok-add_edges.ensures.rows c.loop-place.invariant.edges
-          (lines_from lines place line (item_at c.as_slice-line-items.result.now lines place line same c.loop-place-test.true c.line-item.is));
+          (lines_from lines place line (read_at c.as_slice-line-items.result.now lines place line same c.loop-place-test.true c.line-item.is));
       hands = more_hands c.args.v.now c.loop-place.rows c.add_edges.new.rows (Line place) hand.Line (edges_of line) c.in_ok-add_edges.ensures.rows
           c.loop-place.invariant.hands (λ i e is. refl);
     }
