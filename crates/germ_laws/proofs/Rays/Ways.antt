@@ -86,7 +86,7 @@ pub record HasRay (rays : List Dir) (d : Direction) : Type 0 where
   pub same : PointSameWay d (direction_of ray)
 
 -- the two forms of 'a ray of the list points this way'
-any_ray : (rays : List Dir) (t d : Direction) → PointSameWay t d → HasRay rays d → Any (λ ray. PointSameWay t (direction_of ray)) rays
+pub any_ray : (rays : List Dir) (t d : Direction) → PointSameWay t d → HasRay rays d → Any (λ ray. PointSameWay t (direction_of ray)) rays
 any_ray rays t d q h =
     (h.place, h.ray, slice_get_within rays h.place h.ray h.is, get_or_from_slice_get rays h.place h.ray h.ray h.is, joined_ways q h.same)
 
@@ -100,13 +100,13 @@ abbrev pub segs : List OwnedEdge → List Seg
 segs edges = map (λ edge. edge.seg) edges
 
 -- the owned edge at a place
-record IsSegOf (edges : List OwnedEdge) (place : ℕ) (e : Seg) : Type 0 where
-  edge : OwnedEdge
-  is : IsAtPlace edges place edge
-  same : edge.seg ≡ e
+pub record IsSegOf (edges : List OwnedEdge) (place : ℕ) (e : Seg) : Type 0 where
+  pub edge : OwnedEdge
+  pub is : IsAtPlace edges place edge
+  pub same : edge.seg ≡ e
 
 -- each edge of the list without owners has one
-seg_of : (edges : List OwnedEdge) (place : ℕ) (e : Seg) → IsAtPlace (segs edges) place e → IsSegOf edges place e
+pub seg_of : (edges : List OwnedEdge) (place : ℕ) (e : Seg) → IsAtPlace (segs edges) place e → IsSegOf edges place e
 seg_of [] place e is = cc
 seg_of (edge ∷ edges) zero e is = record { edge = edge; is = refl; same = some_same is }
 seg_of (edge ∷ edges) (suc place) e is = let r = seg_of edges place e is in record { edge = r.edge; is = r.is; same = r.same }

@@ -245,7 +245,7 @@ module _ (rays : List Dir) (ascending : AllPairs (λ d e. compare_angles d e ≡
         before (inr (inl l)) = from_zero l (cases_eq k 0)
         before (inr (inr l)) = absurd (let below = slice_get_within rays k u u_is in omega (arith, below, l, last))
 
-    off_sector : IsAtPlace rays ((i + 1) % length rays) s → IsOutside
+    pub off_sector : IsAtPlace rays ((i + 1) % length rays) s → IsOutside
     off_sector s_is = go (cases_lt (i + 1) (length rays))
       where
         go : ((i + 1) < length rays) ⊎ (length rays ≤ (i + 1)) → IsOutside
@@ -256,7 +256,7 @@ module _ (rays : List Dir) (ascending : AllPairs (λ d e. compare_angles d e ≡
             off_last_sector l (subst (λ (j : ℕ). IsAtPlace rays j s) (ap (λ (n : ℕ). n % length rays) e ∙ mod_self (length rays)) s_is)
 
 -- ---- the germ
-none_within : (area : Area) (v : Point) (rays : List Dir) → AreRaysAt v (edges_of_rings (rings_of area)) rays → (i : ℕ) (r s : Dir) → IsAtPlace rays i r → IsAtPlace rays ((i + 1) % length rays) s → HasNoEdgeWithin area v (direction_of r) (direction_of s)
+pub none_within : (area : Area) (v : Point) (rays : List Dir) → AreRaysAt v (edges_of_rings (rings_of area)) rays → (i : ℕ) (r s : Dir) → IsAtPlace rays i r → IsAtPlace rays ((i + 1) % length rays) s → HasNoEdgeWithin area v (direction_of r) (direction_of s)
 none_within area v rays are i r s r_is s_is place f is on t within = (λ c. on_ray (are.whole place f is on t (inl c)), λ c. on_ray (are.whole place f is on t (inr c)))
   where
     on_ray : Any (λ ray. PointSameWay t (direction_of ray)) rays → ⊥

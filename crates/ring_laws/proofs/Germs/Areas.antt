@@ -105,7 +105,7 @@ toward_on v d a c n p far away =
       };
     }
 
-edge_along : (v : Point) (d : Direction) (f : Seg) → is_on_edge v f ≡ true → (a : Point) → IsOnSegment (point_of f.a) (point_of f.b) a → is_toward v d a ≡ true → HoldsAlong (λ p. is_on_edge p f ≡ true) v d
+pub edge_along : (v : Point) (d : Direction) (f : Seg) → is_on_edge v f ≡ true → (a : Point) → IsOnSegment (point_of f.a) (point_of f.b) a → is_toward v d a ≡ true → HoldsAlong (λ p. is_on_edge p f ≡ true) v d
 edge_along v d f on a on_a toward =
     let c = (Decides-is_toward v d a).0 toward in
     record {
