@@ -1,4 +1,4 @@
-ghost use Rattle.std.specs.Prelude.{◌≡◌, ◌<◌, List, [], ◌∷◌, ◌++◌, length, OnOk, OnErr, IfSome, IfNone, IsNone, ◌↔◌, reverse, slice_index_or};
+ghost use Rattle.std.specs.Prelude.{◌≡◌, ◌<◌, List, [], ◌∷◌, ◌++◌, length, OnOk, OnErr, IfSome, IfNone, IsNone, ◌↔◌, reverse, slice_index_or, IsPermutation, IsSorted};
 
 use std::alloc::{AllocError, Global};
 use std::marker::Model;
@@ -54,6 +54,16 @@ impl<T> ItemList<T> {
         ensures reversed { self.new ≡ reverse self.old }
     {
         self.items.as_mut_slice().reverse();
+    }
+
+    /// Puts the items into their order. Takes no memory.
+    pub fn sort(&mut self)
+    where
+        T: Ord,
+        ensures permutation { IsPermutation self.old self.new }
+        ensures sorted { IsSorted T.cmp self.new }
+    {
+        self.items.sort_unstable();
     }
 
     /// Lets all items go.

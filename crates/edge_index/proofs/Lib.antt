@@ -1,0 +1,12 @@
+pub mod Differences
+pub mod Finds
+pub mod IndexRows
+pub mod Indexes
+pub mod LeastBoxes
+pub mod Lists
+pub mod Meetings
+pub mod Places
+pub mod Steps
+pub mod Subtrees
+pub mod Turns
+pub mod Visits

@@ -1,0 +1,14 @@
+//! A list of segments that can be asked which of their windows meet a window: a tree of boxes.
+#![tactic(auto)]
+
+mod boxes;
+mod index;
+mod order;
+mod rows;
+#[cfg(test)]
+mod tests;
+mod walking;
+
+pub use boxes::{BoxRow, Boxes};
+pub use index::EdgeIndex;
+pub use walking::walk;
