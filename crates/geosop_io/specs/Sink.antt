@@ -1,5 +1,5 @@
 -- What is seen of a sink, and what a call of `Sink` does to it.
-use Rattle.std.specs.Prelude.{◌≡◌, ℕ, ◌≤◌, List, length, take, Option, Result, OnOk, OnErr}
+use Rattle.std.specs.Prelude.{◌≡◌, ℕ, ◌≤◌, ◌⊎◌, List, length, take, Option, Result, OnOk, OnErr}
 use Rattle.std.specs.Io.KnownBytes.{append_known}
 use Rattle.geosop_io.specs.Counts.{one_more}
 
@@ -34,3 +34,7 @@ pub record HasFailedAt (old new : SinkSeen) (bytes : List ℕ) : Type 0 where
 pub record IsOffered {T E : Type 0} (result : Result T E) (old new : SinkSeen) (bytes : List ℕ) : Type 0 where
   pub whole : OnOk result (new ≡ after_taking old bytes)
   pub front : OnErr result (HasFailedAt old new bytes)
+
+-- Bytes were offered, whatever came of it.
+abbrev pub IsTried : SinkSeen → SinkSeen → List ℕ → Type 0
+IsTried old new bytes = (new ≡ after_taking old bytes) ⊎ HasFailedAt old new bytes

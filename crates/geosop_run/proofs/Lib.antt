@@ -1,11 +1,12 @@
 pub mod PointMatrix
 pub mod Tabulated
-pub mod Fronts
-pub mod PointText
+pub mod Parts
+pub mod PointLines
 pub mod Words
 pub mod SourceSteps
-pub mod LineOne
+pub mod OneCommand
 pub mod PointTexts
 pub mod OneAnswer
-pub mod FirstRefusal
-pub mod Exactness
+pub mod SideFaults
+pub mod Completeness
+pub mod Ran

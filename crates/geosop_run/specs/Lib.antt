@@ -1,9 +1,8 @@
 pub mod Points
 pub mod Statuses
-pub mod Offered
 pub mod Text
-pub mod Sides
 pub mod Command
 pub mod Sources
+pub mod Asking
 pub mod Run
 pub mod Steps

@@ -1,11 +1,10 @@
 -- Lists of positions: what is in both, and what is in one alone.
-use Rattle.std.specs.Prelude.{◌≡◌, ℕ, Bool, true, false, not, List, [], ◌∷◌, ◌++◌, map}
-use Rattle.std.specs.List.{list_any, flat_map}
+use Rattle.std.specs.Prelude.{◌≡◌, Bool, true, false, not, List, []}
+use Rattle.std.specs.List.{list_any}
 use Rattle.im_matrix.specs.declared.Loc.{Loc}
 use Rattle.im_matrix.specs.declared.Loc.TheVariants.{Interior, Boundary, Exterior}
 use Rattle.im_matrix.specs.declared.Dim.{Dim}
 use Rattle.im_matrix.specs.declared.Dim.TheVariants.{Empty, Zero, Two}
-use Rattle.im_matrix.specs.Cells.{all_cells, character_of}
 use Rattle.plane_exact.specs.declared.point.Pt.{Pt}
 use Rattle.point_set.specs.declared.figure.Figure.{Figure}
 use Rattle.point_set.specs.Rings.{is_same_position}
@@ -46,15 +45,3 @@ points_dimension in_a in_b = dimension_by_points (has_common in_a in_b) (has_oth
 pub record HasPointsAlone (f : Figure) : Type 0 where
   pub lines : f.lines ≡ []
   pub areas : f.areas ≡ []
-
--- The line of a pair of such figures: the characters of the nine cells and a line feed.
-abbrev pub line_of_points : Figure → Figure → List ℕ
-line_of_points a b = map (λ c. character_of (points_dimension a.points b.points c.a c.b)) all_cells ++ 10 ∷ []
-
--- The lines of one figure with each of a list.
-abbrev pub row_of_points : List Figure → Figure → List ℕ
-row_of_points in_b a = flat_map (line_of_points a) in_b
-
--- The lines of all pairs, the figures of A in order and for each of them those of B.
-abbrev pub text_of_points : List Figure → List Figure → List ℕ
-text_of_points in_a in_b = flat_map (row_of_points in_b) in_a

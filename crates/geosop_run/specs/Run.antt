@@ -1,145 +1,166 @@
--- What a run says by its status, and what it has written.
-use Rattle.std.specs.Prelude.{◌≡◌, ◌≢◌, ℕ, ◌⊎◌, List, Option, Some, None, ⊤}
-use Rattle.std.specs.Io.KnownBytes.{append_known}
+-- The headline: what a run says by its status, and which status comes of which words and bytes.
+use Rattle.std.specs.Prelude.{◌≡◌, ℕ, ◌⊎◌, List, Some, None}
 use Rattle.im_matrix.specs.declared.Which.{Which}
 use Rattle.im_matrix.specs.declared.Which.TheVariants.{A, B}
 use Rattle.point_set.specs.declared.figure.Figure.{Figure}
 use Rattle.point_set.specs.declared.rule.Rule.TheVariants.{Mod2}
-use Rattle.geosop_io.specs.Faults.{IsRisen}
-use Rattle.geosop_io.specs.Known.{AppendsFront}
+use Rattle.geosop_io.specs.Counts.{IsRisen}
+use Rattle.geosop_io.specs.Inputs.{InputsSeen}
+use Rattle.geosop_io.specs.Sink.{SinkSeen, HasTakenFront, HasFailedAt, after_taking}
 use Rattle.geosop_run.specs.declared.config.Source.{Source}
 use Rattle.geosop_run.specs.declared.config.Config.{Config}
-use Rattle.geosop_run.specs.declared.sources.SideFault.{SideFault}
-use Rattle.geosop_run.specs.declared.sources.SideFault.TheVariants as fault
+use Rattle.geosop_run.specs.declared.config.UsageFault.{UsageFault}
 use Rattle.geosop_run.specs.declared.status.Refusal.{Refusal}
-use Rattle.geosop_run.specs.declared.status.Refusal.TheVariants as refusal
 use Rattle.geosop_run.specs.declared.status.Status.{Status}
 use Rattle.geosop_run.specs.declared.status.Status.TheVariants as status
-use Rattle.geosop_run.specs.declared.config.UsageFault.{UsageFault}
-use Rattle.geosop_run.specs.Command.{IsLine, IsUsageFault}
-use Rattle.geosop_run.specs.Sides.{bytes_of, name_of}
+use Rattle.geosop_run.specs.Command.{IsCommandOf, IsUsageFault}
+use Rattle.geosop_run.specs.Asking.{name_of, bytes_of, side_of, IsAdmittedFrom, IsRefusedFrom, IsUnreadable}
 use Rattle.geosop_run.specs.Sources.{IsRefusalOf, IsAdmitted, IsFirstRefusal}
 use Rattle.geosop_run.specs.Text.{IsTextOf}
 
+-- What a run is given and what it leaves: the words of its command line, and what is seen of its inputs and of its output before
+-- it and after it.
+pub record Run : Type 0 where
+  pub words : List (List ℕ)
+  pub inputs_before : InputsSeen
+  pub inputs_after : InputsSeen
+  pub output_before : SinkSeen
+  pub output_after : SinkSeen
+
 -- The source of a side.
 abbrev pub source_of_side : Config → Which → Source
-source_of_side config A = config.a
-source_of_side config B = config.b
+source_of_side command A = command.a
+source_of_side command B = command.b
 
--- The words are a command, and the source of this side has told bytes.
-pub record IsSideTold (words : List (List ℕ)) (holds : List ℕ → Option (List ℕ)) (side : Which) (bytes : List ℕ) : Type 0 where
-  pub config : Config
-  pub line : IsLine words config
-  pub bytes_are : bytes_of holds (source_of_side config side) ≡ Some bytes
+-- A side's bytes are told, and are these.
+abbrev pub HasBytes : Run → Config → Which → List ℕ → Type 0
+HasBytes run command side bytes = bytes_of run.inputs_before.holds (source_of_side command side) ≡ Some bytes
 
--- Both sources have told bytes: a for A and b for B.
-pub record IsTold (words : List (List ℕ)) (holds : List ℕ → Option (List ℕ)) (a b : List ℕ) : Type 0 where
-  pub of_a : IsSideTold words holds A a
-  pub of_b : IsSideTold words holds B b
+-- A side is admitted as these figures: a file or standard input was asked for by its name and read to its end, and where its
+-- bytes are told, they are within the limit and read as these figures.
+abbrev pub IsAdmittedAs : Run → Config → Which → List Figure → Type 0
+IsAdmittedAs run command side figures = IsAdmittedFrom side (source_of_side command side) run.inputs_before run.inputs_after figures
 
--- The bytes of a source, where they are told, are admitted whole.
-abbrev pub IsSourceAdmitted : (List ℕ → Option (List ℕ)) → Source → Type 0
-IsSourceAdmitted holds from = (bytes : List ℕ) → bytes_of holds from ≡ Some bytes → (figures : List Figure) × IsAdmitted bytes figures
+-- No read met a fault.
+abbrev pub IsReadWell : Run → Type 0
+IsReadWell run = run.inputs_after.faults ≡ run.inputs_before.faults
 
--- The bytes of a side, where they are told, are admitted whole.
-abbrev pub IsSideAdmitted : List (List ℕ) → (List ℕ → Option (List ℕ)) → Which → Type 0
-IsSideAdmitted words holds side = (bytes : List ℕ) → IsSideTold words holds side bytes → (figures : List Figure) × IsAdmitted bytes figures
+-- Nothing was written, and no write met a fault.
+abbrev pub IsUnwritten : Run → Type 0
+IsUnwritten run = run.output_after ≡ run.output_before
 
--- Both sides are admitted, and their pairs have this text.
-pub record HasText (a b : List ℕ) (text : List ℕ) : Type 0 where
+-- Both sides are admitted, and these are the lines of all their pairs, in order.
+pub record HasText (run : Run) (command : Config) (text : List ℕ) : Type 0 where
   pub in_a : List Figure
   pub in_b : List Figure
-  pub admitted_a : IsAdmitted a in_a
-  pub admitted_b : IsAdmitted b in_b
+  pub admitted_a : IsAdmittedAs run command A in_a
+  pub admitted_b : IsAdmittedAs run command B in_b
   pub is_text : IsTextOf in_a in_b Mod2 text
 
--- What was taken grew by the text of the two sides.
-pub record HasWritten (a b : List ℕ) (old new : Option (List ℕ)) : Type 0 where
+-- Ok: the output took the whole text, and no read and no write met a fault.
+pub record SaysOk (run : Run) (command : Config) : Type 0 where
   pub text : List ℕ
-  pub of_sides : HasText a b text
-  pub taken : new ≡ append_known old text
+  pub of_pairs : HasText run command text
+  pub written : run.output_after ≡ after_taking run.output_before text
+  pub read_well : IsReadWell run
 
--- What was taken grew by a front of the text of the two sides.
-pub record HasWrittenFront (a b : List ℕ) (old new : Option (List ℕ)) : Type 0 where
+-- Usage: the words have this first fault. The inputs and the output are as they were.
+pub record SaysUsage (run : Run) (found : UsageFault) : Type 0 where
+  pub first : IsUsageFault run.words found
+  pub unasked : run.inputs_after ≡ run.inputs_before
+  pub unwritten : IsUnwritten run
+
+-- How far a run had come where it ended at a side: at A, B wasn't asked for; at B, A was admitted whole.
+abbrev pub HasComeTo : Run → Config → Which → Type 0
+HasComeTo run command A = run.inputs_after.asked B ≡ None
+HasComeTo run command B = (figures : List Figure) × IsAdmittedAs run command A figures
+
+-- Refused: this is the refusal of its side, whatever the other side is, and of both the first. Nothing was written, and no read met
+-- a fault.
+pub record SaysRefused (run : Run) (command : Config) (found : Refusal) : Type 0 where
+  pub come : HasComeTo run command (side_of found)
+  pub refused : IsRefusedFrom (source_of_side command (side_of found)) run.inputs_before run.inputs_after found
+  pub first : (a b : List ℕ) → HasBytes run command A a → HasBytes run command B b → IsFirstRefusal a b found
+  pub unwritten : IsUnwritten run
+  pub read_well : IsReadWell run
+
+-- ReadFault: a side's file or standard input couldn't be read, and one fault was counted for it. Nothing was written.
+pub record SaysReadFault (run : Run) (command : Config) : Type 0 where
+  pub side : Which
+  pub come : HasComeTo run command side
+  pub unreadable : IsUnreadable side (source_of_side command side) run.inputs_before run.inputs_after
+  pub unwritten : IsUnwritten run
+
+-- WriteFault: the output took a front of the text, and then counted one fault. No read met a fault.
+pub record SaysWriteFault (run : Run) (command : Config) : Type 0 where
   pub text : List ℕ
-  pub of_sides : HasText a b text
-  pub taken : AppendsFront old new text
+  pub of_pairs : HasText run command text
+  pub front : HasFailedAt run.output_before run.output_after text
+  pub read_well : IsReadWell run
 
--- A side was asked for by the name that the words give to it, or not at all.
-pub record IsNamedBy (words : List (List ℕ)) (side : Which) (asked : Option (List ℕ)) : Type 0 where
-  pub config : Config
-  pub line : IsLine words config
-  pub name_is : asked ≡ name_of (source_of_side config side)
+-- Both sides are admitted, and the output took a front of the text and counted no fault.
+pub record HasBegun (run : Run) (command : Config) : Type 0 where
+  pub text : List ℕ
+  pub of_pairs : HasText run command text
+  pub front : HasTakenFront run.output_before run.output_after text
 
-abbrev pub IsAskedRightly : List (List ℕ) → Which → Option (List ℕ) → Type 0
-IsAskedRightly words side asked = (asked ≡ None) ⊎ IsNamedBy words side asked
+-- NoMemory: nothing was written, or a front of the text where both sides are admitted. No read and no write met a fault.
+pub record SaysNoMemory (run : Run) (command : Config) : Type 0 where
+  pub written : IsUnwritten run ⊎ HasBegun run command
+  pub read_well : IsReadWell run
 
--- The side of a refusal.
-abbrev pub side_of : Refusal → Which
-side_of (refusal.TooLong side) = side
-side_of (refusal.Text side number kind place) = side
-side_of (refusal.Unbuilt side number) = side
+-- The words are a command of which this holds.
+pub record OfCommand (words : List (List ℕ)) (Holds : Config → Type 0) : Type 0 where
+  pub command : Config
+  pub is_command : IsCommandOf words command
+  pub holds : Holds command
 
--- Why a side gave no figures, where its bytes are told: its refusal, a counted read fault, or want of memory.
-abbrev pub IsSideFault : Which → Option (List ℕ) → ℕ → ℕ → SideFault → Type 0
-IsSideFault side told before after (fault.Refused refused) =
-    (side_of refused ≡ side) × ((bytes : List ℕ) → told ≡ Some bytes → IsRefusalOf side bytes refused)
-IsSideFault side told before after fault.ReadFault = IsRisen before after
-IsSideFault side told before after fault.NoMemory = ⊤
+-- What a run says by its status. Every status but Usage comes of a command.
+abbrev pub SaysOf : Run → Status → Type 0
+SaysOf run status.Ok = OfCommand run.words (SaysOk run)
+SaysOf run (status.Usage found) = SaysUsage run found
+SaysOf run (status.Refused found) = OfCommand run.words (λ command. SaysRefused run command found)
+SaysOf run status.ReadFault = OfCommand run.words (SaysReadFault run)
+SaysOf run status.WriteFault = OfCommand run.words (SaysWriteFault run)
+SaysOf run status.NoMemory = OfCommand run.words (SaysNoMemory run)
+
+-- A side was asked for by the name that the command gives to it, or not at all.
+abbrev pub IsAskedRightly : Run → Which → Type 0
+IsAskedRightly run side =
+    (run.inputs_after.asked side ≡ None)
+    ⊎ OfCommand run.words (λ command. run.inputs_after.asked side ≡ name_of (source_of_side command side))
+
+-- B was asked for only after A was admitted whole.
+abbrev pub IsLastAsked : Run → Type 0
+IsLastAsked run =
+    (run.inputs_after.asked B ≡ None)
+    ⊎ OfCommand run.words (λ command. (figures : List Figure) × IsAdmittedAs run command A figures)
 
 -- A run ended with this refusal, unless a read fault or want of memory ended it.
 abbrev pub IsRefusedOrStopped : Status → Refusal → Type 0
 IsRefusedOrStopped ended found = (ended ≡ status.Refused found) ⊎ ((ended ≡ status.ReadFault) ⊎ (ended ≡ status.NoMemory))
 
--- The status of a run that a side's fault ends.
-abbrev pub status_of : SideFault → Status
-status_of (fault.Refused refused) = status.Refused refused
-status_of fault.ReadFault = status.ReadFault
-status_of fault.NoMemory = status.NoMemory
+-- What comes of a command and the bytes of its sources. Want of memory is the one free answer.
+pub record ComesOf (run : Run) (command : Config) (ended : Status) : Type 0 where
+  -- Two sides that are both admitted end Ok, where no fault is counted.
+  pub completes : (a b : List ℕ) → HasBytes run command A a → HasBytes run command B b → (in_a in_b : List Figure)
+      → IsAdmitted a in_a → IsAdmitted b in_b
+      → (¬ IsRisen run.inputs_before.faults run.inputs_after.faults) → (¬ IsRisen run.output_before.faults run.output_after.faults)
+      → (ended ≡ status.Ok) ⊎ (ended ≡ status.NoMemory)
+  -- The first refusal of the input comes out, unless a fault is counted; that of A whatever B is, and then B isn't asked for.
+  pub refusal : (a b : List ℕ) → HasBytes run command A a → HasBytes run command B b
+      → (found : Refusal) → IsFirstRefusal a b found → IsRefusedOrStopped ended found
+  pub refusal_of_a : (a : List ℕ) → HasBytes run command A a → (found : Refusal) → IsRefusalOf A a found → IsRefusedOrStopped ended found
+  pub b_unasked : (a : List ℕ) → HasBytes run command A a → (found : Refusal) → IsRefusalOf A a found → run.inputs_after.asked B ≡ None
+  -- Where a side has a refusal nothing is written, whatever the status and the other side.
+  pub unwritten : (side : Which) (bytes : List ℕ) → HasBytes run command side bytes
+      → (found : Refusal) → IsRefusalOf side bytes found → IsUnwritten run
 
--- What a run says by its status. `holds` are the bytes of each name, `asked` the names that were asked for at its end; the
--- counts of faults of the inputs and of the output, and what the output had taken, are those at its start and at its end.
-pub record IsRun (words : List (List ℕ)) (holds : List ℕ → Option (List ℕ)) (asked : Which → Option (List ℕ))
-    (reads_before reads_after : ℕ) (old new : Option (List ℕ)) (writes_before writes_after : ℕ) (ended : Status) : Type 0 where
-  -- Ok: the output took the lines of all pairs, each with the matrix of the two point sets.
-  pub written : ended ≡ status.Ok → (a b : List ℕ) → IsTold words holds a b → HasWritten a b old new
-  -- Every status but Usage and NoMemory comes of a command alone.
-  pub command : ended ≢ status.NoMemory → ((found : UsageFault) → ended ≢ status.Usage found) → (config : Config) × IsLine words config
-  -- Usage: the first fault of the words.
-  pub usage : (found : UsageFault) → ended ≡ status.Usage found → IsUsageFault words found
-  -- Refused: the first refusal of the input.
-  pub refused : (found : Refusal) → ended ≡ status.Refused found → (a b : List ℕ) → IsTold words holds a b → IsFirstRefusal a b found
-  -- It is the refusal of its side whatever the other side is, and B is refused only after A was admitted whole.
-  pub refused_alone : (found : Refusal) → ended ≡ status.Refused found → (bytes : List ℕ) → IsSideTold words holds (side_of found) bytes →
-      IsRefusalOf (side_of found) bytes found
-  pub refused_after : (found : Refusal) → ended ≡ status.Refused found → side_of found ≡ B → IsSideAdmitted words holds A
-  -- ReadFault: the inputs counted a fault.
-  pub read_fault : ended ≡ status.ReadFault → IsRisen reads_before reads_after
-  -- WriteFault: the output counted a fault, and took a front of the text.
-  pub write_fault : ended ≡ status.WriteFault → IsRisen writes_before writes_after
-  pub front : ended ≡ status.WriteFault → (a b : List ℕ) → IsTold words holds a b → HasWrittenFront a b old new
-  -- Ok and WriteFault come only after both sides were admitted whole.
-  pub admitted : (ended ≡ status.Ok) ⊎ (ended ≡ status.WriteFault) → (side : Which) → IsSideAdmitted words holds side
-  -- In every other case the output took nothing.
-  pub nothing : ended ≢ status.Ok → ended ≢ status.WriteFault → new ≡ old
-  -- A side was asked for by the name that the words give to it, or not at all.
-  pub asked_rightly : (side : Which) → IsAskedRightly words side (asked side)
-  -- B was asked for only after A was admitted whole.
-  pub a_first : (asked B ≡ None) ⊎ IsSideAdmitted words holds A
-
--- The same from the other side: what comes of the words and the bytes. Want of memory is the one free answer.
-pub record IsExact (words : List (List ℕ)) (holds : List ℕ → Option (List ℕ)) (asked : Which → Option (List ℕ))
-    (reads_before reads_after : ℕ) (old new : Option (List ℕ)) (writes_before writes_after : ℕ) (ended : Status) : Type 0 where
-  -- A fault of the words comes out.
-  pub usage_comes : (found : UsageFault) → IsUsageFault words found → (ended ≡ status.Usage found) ⊎ (ended ≡ status.NoMemory)
-  -- The first refusal of the input comes out, unless a read fault was counted; that of A whatever B is.
-  pub refusal_comes : (a b : List ℕ) → IsTold words holds a b → (found : Refusal) → IsFirstRefusal a b found → IsRefusedOrStopped ended found
-  pub refusal_of_a_comes : (a : List ℕ) → IsSideTold words holds A a → (found : Refusal) → IsRefusalOf A a found → IsRefusedOrStopped ended found
-  -- A command whose sides are both admitted ends Ok, where no fault is counted.
-  pub completes : (a b : List ℕ) → IsTold words holds a b → (in_a in_b : List Figure) → IsAdmitted a in_a → IsAdmitted b in_b →
-      (¬ IsRisen reads_before reads_after) → (¬ IsRisen writes_before writes_after) → (ended ≡ status.Ok) ⊎ (ended ≡ status.NoMemory)
-  -- Where the words have a fault or a side has a refusal, nothing is written, whatever the status and the other side.
-  pub unwritten_for_words : (found : UsageFault) → IsUsageFault words found → new ≡ old
-  pub unwritten_for_input : (side : Which) (bytes : List ℕ) → IsSideTold words holds side bytes → (found : Refusal) → IsRefusalOf side bytes found → new ≡ old
-  -- Where A has a refusal, B wasn't asked for.
-  pub b_unasked : (a : List ℕ) → IsSideTold words holds A a → (found : Refusal) → IsRefusalOf A a found → asked B ≡ None
+-- What a run says: by its status; whatever its status, for what it asked; and what comes of its words, by their first fault or as a
+-- command.
+pub record IsRun (run : Run) (ended : Status) : Type 0 where
+  pub says : SaysOf run ended
+  pub asked : (side : Which) → IsAskedRightly run side
+  pub b_last : IsLastAsked run
+  pub usage_comes : (found : UsageFault) → IsUsageFault run.words found → ended ≡ status.Usage found
+  pub comes : (command : Config) → IsCommandOf run.words command → ComesOf run command ended

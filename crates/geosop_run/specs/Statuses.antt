@@ -1,12 +1,16 @@
 -- Statuses: their codes and their fault lines.
-use Rattle.std.specs.Prelude.{ℕ, List, [], ◌∷◌, codes, decimal}
+use Rattle.std.specs.Prelude.{ℕ, List, [], ◌∷◌, codes, decimal, Result, Ok, Err}
 use Rattle.std.specs.List.{concat}
 use Rattle.im_matrix.specs.declared.Which.{Which}
 use Rattle.im_matrix.specs.declared.Which.TheVariants.{A, B}
 use Rattle.wkt_text.specs.declared.control.WktKind.{WktKind}
 use Rattle.wkt_text.specs.declared.control.WktKind.TheVariants.{Syntax, UnknownType, NotWhole, TooWide, LongNumber, Ragged, RingOpen, RingShort, LineShort, Deep, TooMany}
+use Rattle.geosop_run.specs.declared.config.LineFault.{LineFault}
+use Rattle.geosop_run.specs.declared.config.LineFault.TheVariants as words
 use Rattle.geosop_run.specs.declared.config.UsageFault.{UsageFault}
 use Rattle.geosop_run.specs.declared.config.UsageFault.TheVariants as usage
+use Rattle.geosop_run.specs.declared.sources.SideFault.{SideFault}
+use Rattle.geosop_run.specs.declared.sources.SideFault.TheVariants as side
 use Rattle.geosop_run.specs.declared.status.Refusal.{Refusal}
 use Rattle.geosop_run.specs.declared.status.Refusal.TheVariants as refusal
 use Rattle.geosop_run.specs.declared.status.Status.{Status}
@@ -20,6 +24,22 @@ code_of (status.Refused refusal) = 2
 code_of status.ReadFault = 3
 code_of status.WriteFault = 4
 code_of status.NoMemory = 5
+
+-- The status of a run that a fault of its words ends.
+abbrev pub status_of_words : LineFault → Status
+status_of_words (words.Usage fault) = status.Usage fault
+status_of_words words.NoMemory = status.NoMemory
+
+-- The status of a run that a side's fault ends.
+abbrev pub status_of_side : SideFault → Status
+status_of_side (side.Refused refusal) = status.Refused refusal
+status_of_side side.ReadFault = status.ReadFault
+status_of_side side.NoMemory = status.NoMemory
+
+-- The status of a run: Ok, or the one that ended it.
+abbrev pub status_of : {T : Type 0} → Result T Status → Status
+status_of (Ok done) = status.Ok
+status_of (Err ended) = ended
 
 -- The letter of a side.
 abbrev pub side_name : Which → List ℕ

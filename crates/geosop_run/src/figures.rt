@@ -1,14 +1,13 @@
 ghost use Rattle.std.specs.Prelude.{◌≡◌, ◌≤◌, ◌+◌, ◌<◌, ◌^◌, length, IfOk, IfErr, All, []};
 ghost use Rattle.point_set.specs.Shape.{IsWellShaped};
 ghost use Rattle.geosop_run.specs.Points.{HasPointsAlone};
-ghost use Rattle.geosop_run.specs.Sides.{IsTextFault};
-ghost use Rattle.geosop_run.specs.Sources.{IsSource, is_unbuilt as is_unbuilt_type};
+ghost use Rattle.geosop_run.specs.Asking.{IsTextFault};
+ghost use Rattle.geosop_run.specs.Sources.{IsSource, is_unbuilt as is_unbuilt_type, most_bytes};
 ghost use Rattle.geosop_run.specs.Steps.{IsNext, StopsAt};
 
 use crate::sources::SideFault;
 use crate::status::Refusal;
 use im_matrix::Which;
-use plane_exact::NoMemory;
 use point_set::{Figure, Valid, Valids};
 use std::alloc::Global;
 use wkt_text::{Scale, TypeWord, WktFault, read_next, type_word};
@@ -49,17 +48,17 @@ fn admit_next(
     bytes: &[u8],
     at: usize,
 ) -> Result<Option<(Valid, usize)>, SideFault>
-    requires { at ≤ length bytes.now }
+    requires within { at ≤ length bytes.now }
     ensures next { IfOk result (IsNext bytes.now at) }
     ensures fault { IfErr result (StopsAt side number bytes.now at) }
 {
     if is_unbuilt(type_word(bytes, at)) {
-        return Err(SideFault::Refused(Refusal::Unbuilt(side, number)));
+        return Err(SideFault::from(Refusal::Unbuilt(side, number)));
     }
     match read_next(alloc, bytes, at, Scale { digits: 0 }) {
         Ok(Some(parsed)) => Ok(Some((seal_points(parsed.figure), parsed.end))),
         Ok(None) => Ok(None),
-        Err(WktFault::Bad(kind, place)) => Err(SideFault::Refused(Refusal::Text(
+        Err(WktFault::Bad(kind, place)) => Err(SideFault::from(Refusal::Text(
             side, number, kind, place,
         ))),
         Err(WktFault::NoMemory) => Err(SideFault::NoMemory),
@@ -71,25 +70,16 @@ fn admit_next(
 /// # Errors
 /// The refusal of the first geometry with a fault, or want of memory.
 pub(crate) fn admit_figures(alloc: Global, side: Which, bytes: &[u8]) -> Result<Valids, SideFault>
-    requires short { length bytes.now ≤ 33554432 }
+    requires short { length bytes.now ≤ most_bytes }
     ensures source { IfOk result (IsSource bytes.now) }
     ensures points { IfOk result (All HasPointsAlone) }
     ensures fault { IfErr result (IsTextFault side bytes.now) }
 {
     let mut figures = Valids::new(alloc);
     let mut at = 0;
-    'geometries: loop {
-        let number = figures.len() as u32 + 1;
-        match admit_next(alloc, side, number, bytes, at) {
-            Ok(Some((figure, end))) => {
-                at = end;
-                match figures.push(figure) {
-                    Ok(()) => {}
-                    Err(NoMemory) => return Err(SideFault::NoMemory),
-                }
-            }
-            Ok(None) => return Ok(figures),
-            Err(fault) => return Err(fault),
-        }
+    while let Some((figure, end)) = admit_next(alloc, side, figures.len() as u32 + 1, bytes, at)? {
+        figures.push(figure)?;
+        at = end;
     }
+    Ok(figures)
 }

@@ -1,6 +1,6 @@
 ghost use Rattle.std.specs.Prelude.{◌≡◌, flat_map};
 ghost use Rattle.std.specs.List.{concat};
-ghost use Rattle.geosop_run.specs.Offered.{IsOffered};
+ghost use Rattle.geosop_io.specs.Sink.{IsOffered};
 ghost use Rattle.geosop_run.specs.Statuses.{side_name as side_bytes, kind_name as kind_bytes, usage_name as usage_bytes, refusal_pieces, fault_line};
 
 use crate::config::UsageFault;
@@ -12,7 +12,7 @@ use wkt_text::WktKind;
 
 /// Offers several pieces one after the other, until one isn't taken.
 fn offer_pieces<O: Sink>(out: &mut O, pieces: &[&[u8]]) -> Result<(), Failed>
-    ensures offered { IsOffered result (O.taken out.old) (O.taken out.new) (O.faults out.old) (O.faults out.new) (flat_map (λ x. x.now) pieces.now) }
+    ensures offered { IsOffered result (O.seen out.old) (O.seen out.new) (flat_map (λ x. x.now) pieces.now) }
 {
     for piece in pieces {
         offer_whole(out, piece)?;
@@ -67,7 +67,7 @@ fn offer_text_fault<E: Sink>(
     kind: WktKind,
     place: usize,
 ) -> Result<(), Failed>
-    ensures offered { IsOffered result (E.taken err.old) (E.taken err.new) (E.faults err.old) (E.faults err.new) (concat (refusal_pieces (Refusal.Text side number kind place))) }
+    ensures offered { IsOffered result (E.seen err.old) (E.seen err.new) (concat (refusal_pieces (Refusal.Text side number kind place))) }
 {
     let mut number_buffer = Buffer::new();
     let mut place_buffer = Buffer::new();
@@ -92,7 +92,7 @@ fn offer_text_fault<E: Sink>(
 
 /// Offers the fault line of a geometry of a type that isn't built yet.
 fn offer_unbuilt<E: Sink>(err: &mut E, side: Which, number: u32) -> Result<(), Failed>
-    ensures offered { IsOffered result (E.taken err.old) (E.taken err.new) (E.faults err.old) (E.faults err.new) (concat (refusal_pieces (Refusal.Unbuilt side number))) }
+    ensures offered { IsOffered result (E.seen err.old) (E.seen err.new) (concat (refusal_pieces (Refusal.Unbuilt side number))) }
 {
     let mut number_buffer = Buffer::new();
     let number = number_buffer.format(number).as_bytes();
@@ -111,7 +111,7 @@ fn offer_unbuilt<E: Sink>(err: &mut E, side: Which, number: u32) -> Result<(), F
 
 /// Offers the fault line of a refusal.
 fn offer_refusal<E: Sink>(err: &mut E, refusal: Refusal) -> Result<(), Failed>
-    ensures offered { IsOffered result (E.taken err.old) (E.taken err.new) (E.faults err.old) (E.faults err.new) (concat (refusal_pieces refusal)) }
+    ensures offered { IsOffered result (E.seen err.old) (E.seen err.new) (concat (refusal_pieces refusal)) }
 {
     match refusal {
         Refusal::TooLong(side) => offer_pieces(
@@ -127,7 +127,8 @@ fn offer_refusal<E: Sink>(err: &mut E, refusal: Refusal) -> Result<(), Failed>
 
 /// Tries the fault line of a status; Ok has none. A failure changes nothing else. Takes no memory.
 pub(crate) fn offer_fault_line<E: Sink>(err: &mut E, status: Status) -> Result<(), Failed>
-    ensures offered { IsOffered result (E.taken err.old) (E.taken err.new) (E.faults err.old) (E.faults err.new) (fault_line status) }
+    ensures offered { IsOffered result (E.seen err.old) (E.seen err.new) (fault_line status) }
+    ensures quiet { status ≡ Status.Ok → E.seen err.new ≡ E.seen err.old }
 {
     match status {
         Status::Ok => Ok(()),

@@ -1,9 +1,10 @@
 ghost use Rattle.std.specs.Prelude.{◌≡◌, [], ◌∷◌, ◌++◌, All};
 ghost use Rattle.im_matrix.specs.Cells.{matrix_text};
-ghost use Rattle.geosop_run.specs.Offered.{IsOffered};
-ghost use Rattle.geosop_run.specs.Points.{HasPointsAlone, line_of_points, row_of_points, text_of_points};
+ghost use Rattle.point_set.specs.declared.rule.Rule.TheVariants.{Mod2};
+ghost use Rattle.geosop_run.specs.Points.{HasPointsAlone};
+ghost use Rattle.geosop_run.specs.Text.{IsLineOf, IsRowOf, IsTextOf, IsTextOffered};
 
-use crate::point_relation::relate_points;
+use crate::point_relation::matrix_of;
 use geosop_io::{Failed, Sink, offer_whole};
 use im_matrix::Matrix;
 use point_set::Valid;
@@ -20,9 +21,9 @@ fn spell(matrix: &Matrix) -> [u8; 10]
 fn offer_pair<O: Sink>(out: &mut O, a: &Valid, b: &Valid) -> Result<(), Failed>
     requires a_points { HasPointsAlone a.now }
     requires b_points { HasPointsAlone b.now }
-    ensures offered { IsOffered result (O.taken out.old) (O.taken out.new) (O.faults out.old) (O.faults out.new) (line_of_points a.now b.now) }
+    ensures offered { IsTextOffered (IsLineOf a.now b.now Mod2) result (O.seen out.old) (O.seen out.new) }
 {
-    let line = spell(&relate_points(a.figure(), b.figure()));
+    let line = spell(&matrix_of(a, b));
     offer_whole(out, &line)
 }
 
@@ -30,7 +31,7 @@ fn offer_pair<O: Sink>(out: &mut O, a: &Valid, b: &Valid) -> Result<(), Failed>
 fn offer_row<O: Sink>(out: &mut O, a: &Valid, in_b: &[Valid]) -> Result<(), Failed>
     requires a_points { HasPointsAlone a.now }
     requires b_points { All HasPointsAlone in_b.now }
-    ensures offered { IsOffered result (O.taken out.old) (O.taken out.new) (O.faults out.old) (O.faults out.new) (row_of_points in_b.now a.now) }
+    ensures offered { IsTextOffered (IsRowOf a.now in_b.now Mod2) result (O.seen out.old) (O.seen out.new) }
 {
     for b in in_b {
         offer_pair(out, a, b)?;
@@ -46,7 +47,7 @@ pub(crate) fn offer_pairs<O: Sink>(
 ) -> Result<(), Failed>
     requires a_points { All HasPointsAlone in_a.now }
     requires b_points { All HasPointsAlone in_b.now }
-    ensures offered { IsOffered result (O.taken out.old) (O.taken out.new) (O.faults out.old) (O.faults out.new) (text_of_points in_a.now in_b.now) }
+    ensures offered { IsTextOffered (IsTextOf in_a.now in_b.now Mod2) result (O.seen out.old) (O.seen out.new) }
 {
     for a in in_a {
         offer_row(out, a, in_b)?;

@@ -1,14 +1,14 @@
-ghost use Rattle.std.specs.Prelude.{◌≡◌, ◌≢◌, []};
+ghost use Rattle.std.specs.Prelude.{◌≡◌, ◌≢◌};
 ghost use Rattle.point_set.specs.declared.rule.Rule.{Rule};
 ghost use Rattle.point_set.specs.Relation.{IsMatrixOf};
 ghost use Rattle.im_matrix.specs.declared.Loc.{Loc};
 ghost use Rattle.im_matrix.specs.declared.Cell.{Cell};
 ghost use Rattle.im_matrix.specs.Cells.{dimension_at, greater, cell};
-ghost use Rattle.geosop_run.specs.Points.{is_among, has_common, has_other, dimension_if, points_dimension};
+ghost use Rattle.geosop_run.specs.Points.{HasPointsAlone, is_among, has_common, has_other, dimension_if, points_dimension};
 
 use im_matrix::{Cell, Dim, Loc, Matrix};
 use plane_exact::Pt;
-use point_set::Figure;
+use point_set::Valid;
 
 const BOTH_INSIDE: Cell = Cell {
     a: Loc::Interior,
@@ -25,17 +25,14 @@ const INSIDE_B_ALONE: Cell = Cell {
     b: Loc::Interior,
 };
 
-/// The matrix of two figures that have no lines and no areas. Points have no boundary, so it is the same under each
-/// boundary node rule. Takes no memory.
-pub(crate) fn relate_points(a: &Figure, b: &Figure) -> Matrix
-    requires a_lines { a.now.lines ≡ [] }
-    requires a_areas { a.now.areas ≡ [] }
-    requires b_lines { b.now.lines ≡ [] }
-    requires b_areas { b.now.areas ≡ [] }
+/// The matrix of a pair. Both have points alone, since nothing else is built yet. Points have no boundary, so it is the same
+/// under each boundary node rule. Takes no memory.
+pub(crate) fn matrix_of(a: &Valid, b: &Valid) -> Matrix
+    requires a_points { HasPointsAlone a.now }
+    requires b_points { HasPointsAlone b.now }
     ensures matrix { (rule : Rule) → IsMatrixOf a.now b.now rule result }
-    ensures cells { (x y : Loc) → dimension_at result (cell x y) ≡ points_dimension a.now.points b.now.points x y }
 {
-    tabulate(a.points.as_slice(), b.points.as_slice())
+    tabulate(a.figure().points.as_slice(), b.figure().points.as_slice())
 }
 
 fn tabulate(in_a: &[Pt], in_b: &[Pt]) -> Matrix

@@ -1,9 +1,7 @@
-ghost use Rattle.std.specs.Prelude.{◌≡◌, ◌≤◌, List, ℕ, None, Some, IfOk, IfErr, All};
-ghost use Rattle.geosop_io.specs.Sides.{other};
+ghost use Rattle.std.specs.Prelude.{◌≡◌, None, IfOk, IfErr, OnOk, All};
+ghost use Rattle.geosop_io.specs.Inputs.{KeepsOthers};
+ghost use Rattle.geosop_run.specs.Asking.{IsAdmittedFrom, IsAskedOrNot, IsSideFault};
 ghost use Rattle.geosop_run.specs.Points.{HasPointsAlone};
-ghost use Rattle.geosop_run.specs.Sides.{bytes_of, IsAskedOrNot};
-ghost use Rattle.geosop_run.specs.Sources.{IsAdmitted};
-ghost use Rattle.geosop_run.specs.Run.{IsSideFault};
 
 use crate::config::Source;
 use crate::figures::admit_figures;
@@ -23,17 +21,14 @@ pub(crate) fn admit_side<I: Inputs>(
     side: Which,
     source: Source,
 ) -> Result<Valids, SideFault>
-    requires new { I.asked inputs.old side ≡ None }
-    ensures admitted { IfOk result (λ figures. (bytes : List ℕ) → bytes_of (I.holds inputs.old) source ≡ Some bytes → IsAdmitted bytes figures) }
+    requires new { (I.seen inputs.old).asked side ≡ None }
+    ensures ok { IfOk result (IsAdmittedFrom side source (I.seen inputs.old) (I.seen inputs.new)) }
     ensures points { IfOk result (All HasPointsAlone) }
-    ensures fault { IfErr result (IsSideFault side (bytes_of (I.holds inputs.old) source) (I.faults inputs.old) (I.faults inputs.new)) }
-    ensures asked { IsAskedOrNot source (I.asked inputs.new side) }
-    ensures other { I.asked inputs.new (other side) ≡ I.asked inputs.old (other side) }
-    ensures holds { I.holds inputs.new ≡ I.holds inputs.old }
-    ensures rising { I.faults inputs.old ≤ I.faults inputs.new }
+    ensures uncounted { OnOk result ((I.seen inputs.new).faults ≡ (I.seen inputs.old).faults) }
+    ensures err { IfErr result (IsSideFault side source (I.seen inputs.old) (I.seen inputs.new)) }
+    ensures asked { IsAskedOrNot source ((I.seen inputs.new).asked side) }
+    ensures others { KeepsOthers side (I.seen inputs.old) (I.seen inputs.new) }
 {
-    match read_side(alloc, inputs, side, source) {
-        Ok(bytes) => admit_figures(alloc, side, bytes.as_slice()),
-        Err(fault) => Err(fault),
-    }
+    let bytes = read_side(alloc, inputs, side, source)?;
+    admit_figures(alloc, side, bytes.as_slice())
 }

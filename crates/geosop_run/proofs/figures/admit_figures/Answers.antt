@@ -1,17 +1,8 @@
 -- One more geometry was read and pushed.
-use Rattle.std.proofs.Common.{arith}
-use Rattle.geosop_run.proofs.SourceSteps.{read_none, read_more}
+use Rattle.geosop_run.proofs.SourceSteps.{read_more}
 use Rattle.geosop_run.proofs.figures.admit_figures.Goals as goal
 
-pub geometries-init : goal.geometries-init
-geometries-init c = rw c.new-figures.ensures.empty (read_none c.args.bytes.now)
-
-pub geometries-preserved : goal.geometries-preserved
-geometries-preserved c =
-    let one = rw c.in-Ok-Some.field-0-is at c.in-Ok-Some.ensures.next in
-    read_more c.args.bytes.now c.geometries.figures c.push.new.self c.geometries.at c.in-Ok-Some.figure c.in-Ok-Some.«end» c.in-Ok.ensures.ok c.geometries.invariant one
-
-pub geometries-smaller : goal.geometries-smaller
-geometries-smaller c =
-    let one = rw c.in-Ok-Some.field-0-is at c.in-Ok-Some.ensures.next in
-    omega (arith, one.onward, one.within)
+pub loop-figures-preserved : goal.loop-figures-preserved
+loop-figures-preserved c =
+    let one = rw c.in-Some.is at c.in_ok-figure.ensures.next in
+    read_more c.args.bytes.now c.loop-figures.figures c.push.new.self c.loop-figures.at c.in-Some.figure c.in-Some.«end» c.in_ok-push.ensures.ok c.loop-figures.invariant one

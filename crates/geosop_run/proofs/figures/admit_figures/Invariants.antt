@@ -3,8 +3,8 @@ use Rattle.std.proofs.Common.{◌-◌, length}
 use Rattle.geosop_run.proofs.SourceSteps.{AreReadTo}
 use Rattle.geosop_run.proofs.figures.admit_figures.Given as goal
 
-abbrev pub invariant-geometries : goal.invariant-geometries
-invariant-geometries l = AreReadTo l.bytes l.figures l.at
+abbrev pub invariant-loop-figures : goal.invariant-loop-figures
+invariant-loop-figures l = AreReadTo l.bytes l.figures l.at
 
-abbrev pub decreases-geometries : goal.decreases-geometries
-decreases-geometries l = length l.bytes - l.at
+abbrev pub decreases-loop-figures : goal.decreases-loop-figures
+decreases-loop-figures l = length l.bytes - l.at

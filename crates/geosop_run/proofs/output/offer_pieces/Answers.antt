@@ -1,8 +1,25 @@
 -- Each piece that was taken whole adds to what was taken, and a piece that wasn't leaves a front of it.
-use Rattle.std.proofs.Common.{arith, refl}
+use Rattle.std.proofs.Common.{◌≡◌, refl}
 use Rattle.std.proofs.lemmas.Result.{err_from_is_err_and}
-use Rattle.geosop_run.proofs.Fronts.{taken_more, taken_front, risen_since}
+use Rattle.geosop_run.proofs.Parts.{taken_none, taken_more, taken_all, taken_flat, failed_flat}
 use Rattle.geosop_run.proofs.output.offer_pieces.Goals as goal
+
+pub loop-piece-init : goal.loop-piece-init
+loop-piece-init g c = taken_none (λ x part. part ≡ x.now) _
+
+pub loop-piece-preserved : goal.loop-piece-preserved
+loop-piece-preserved g c =
+    taken_more (λ x part. part ≡ x.now) c.args.pieces.now c.loop-piece.piece-index _ _ _ _ _ _ refl c.loop-piece-test.true
+    c.loop-piece.invariant refl c.in_ok-offer_whole.ensures.offered.whole
+
+pub returns : goal.returns
+returns g c = record {
+  offered = record {
+    whole = taken_flat (λ x. x.now) c.args.pieces.now _ _
+        (taken_all (λ x part. part ≡ x.now) c.args.pieces.now c.loop-piece.piece-index _ _ c.loop-piece-test.false c.loop-piece.invariant);
+    front = tt;
+  };
+}
 
 pub returns-in_err-offer_whole : goal.returns-in_err-offer_whole
 returns-in_err-offer_whole g c =
@@ -11,14 +28,7 @@ returns-in_err-offer_whole g c =
     (record {
       offered = record {
         whole = tt;
-        front = taken_front (λ x. x.now) c.args.pieces.now c.loop-piece.piece-index _ _ _ _ _ refl c.loop-piece-test.true c.loop-piece.invariant.0 c.in_err-offer_whole.ensures.front;
-        counted = risen_since c.loop-piece.invariant.1 c.in_err-offer_whole.ensures.counted;
-        rising = omega (arith, c.loop-piece.invariant.1, c.offer_whole.ensures.rising);
+        front = failed_flat (λ x. x.now) c.args.pieces.now c.loop-piece.piece-index _ _ _ _ _ refl c.loop-piece-test.true
+            c.loop-piece.invariant c.in_err-offer_whole.ensures.offered.front;
       };
     })
-
-pub loop-piece-preserved : goal.loop-piece-preserved
-loop-piece-preserved g c = (
-  taken_more (λ x. x.now) c.args.pieces.now c.loop-piece.piece-index _ _ _ _ _ refl c.loop-piece-test.true c.loop-piece.invariant.0 c.in_ok-offer_whole.ensures.taken,
-  omega (arith, c.loop-piece.invariant.1, c.offer_whole.ensures.rising),
-)

@@ -1,11 +1,10 @@
 -- The rows so far are taken.
-use Rattle.std.proofs.Common.{◌≡◌, ◌≤◌, take}
-use Rattle.std.specs.List.{flat_map}
-use Rattle.std.specs.Io.KnownBytes.{append_known}
-use Rattle.geosop_run.specs.Points.{row_of_points}
+use Rattle.std.proofs.Common.{take}
+use Rattle.point_set.specs.declared.rule.Rule.TheVariants.{Mod2}
+use Rattle.geosop_run.specs.Text.{IsRowOf}
+use Rattle.geosop_run.proofs.Parts.{HasTakenParts}
 use Rattle.geosop_run.proofs.pairs.offer_pairs.Given as goal
 
 abbrev pub invariant-loop-a : goal.invariant-loop-a
 invariant-loop-a g l =
-    (g.O.Sink.taken l.out ≡ append_known (g.O.Sink.taken l.fn.out) (flat_map (row_of_points l.in_b) (take l.a-index l.in_a)))
-    × (g.O.Sink.faults l.fn.out ≤ g.O.Sink.faults l.out)
+    HasTakenParts (λ a. IsRowOf a l.in_b Mod2) (take l.a-index l.in_a) (g.O.Sink.seen l.fn.out) (g.O.Sink.seen l.out)

@@ -1,11 +1,10 @@
 -- The lines of the pairs so far are taken.
-use Rattle.std.proofs.Common.{◌≡◌, ◌≤◌, take}
-use Rattle.std.specs.List.{flat_map}
-use Rattle.std.specs.Io.KnownBytes.{append_known}
-use Rattle.geosop_run.specs.Points.{line_of_points}
+use Rattle.std.proofs.Common.{take}
+use Rattle.point_set.specs.declared.rule.Rule.TheVariants.{Mod2}
+use Rattle.geosop_run.specs.Text.{IsLineOf}
+use Rattle.geosop_run.proofs.Parts.{HasTakenParts}
 use Rattle.geosop_run.proofs.pairs.offer_row.Given as goal
 
 abbrev pub invariant-loop-b : goal.invariant-loop-b
 invariant-loop-b g l =
-    (g.O.Sink.taken l.out ≡ append_known (g.O.Sink.taken l.fn.out) (flat_map (line_of_points l.a) (take l.b-index l.in_b)))
-    × (g.O.Sink.faults l.fn.out ≤ g.O.Sink.faults l.out)
+    HasTakenParts (λ b. IsLineOf l.a b Mod2) (take l.b-index l.in_b) (g.O.Sink.seen l.fn.out) (g.O.Sink.seen l.out)

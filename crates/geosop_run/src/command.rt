@@ -1,5 +1,5 @@
-ghost use Rattle.std.specs.Prelude.{◌≡◌, List, ℕ, MatchOption, IfOk, IfErr, map, string_bytes};
-ghost use Rattle.geosop_run.specs.Command.{IsCommand, IsLine, IsLineFault, IsUsageFault, is_stdin as is_stdin_so, source_of as source_of_value};
+ghost use Rattle.std.specs.Prelude.{◌≡◌, MatchOption, IfOk, IfErr, map, string_bytes};
+ghost use Rattle.geosop_run.specs.Command.{HasValues, IsCommandOf, IsCommandFault, IsUsageFault, is_stdin as is_stdin_so, source_of as source_of_value};
 ghost use Rattle.geosop_run.specs.declared.config.UsageFault.TheVariants.{Line};
 
 use crate::config::{Config, LineFault, Source, UsageFault};
@@ -8,9 +8,19 @@ use plane_exact::NoMemory;
 use std::alloc::Global;
 use wkt_text::is_text;
 
-/// The values of `-a` and `-b`, where the words are a command.
+impl From<NoMemory> for LineFault {
+    ghost use Rattle.geosop_run.specs.declared.config.LineFault.TheVariants as fault;
+
+    ghost from_gives = { λ _ e. e ≡ fault.NoMemory };
+
+    fn from(_value: NoMemory) -> Self {
+        LineFault::NoMemory
+    }
+}
+
+/// The values of `-a` and `-b`, where the words are those of a command.
 fn command_values(words: &[String]) -> Option<(&str, &str)>
-    ensures values { MatchOption result (IsUsageFault (map string_bytes words.now) Line) (λ v. IsCommand (map string_bytes words.now) v.0.now v.1.now) }
+    ensures values { MatchOption result (IsUsageFault (map string_bytes words.now) Line) (λ v. HasValues (map string_bytes words.now) v.0.now v.1.now) }
 {
     let [_, dash_a, a, dash_b, b, operation] = words else {
         return None;
@@ -46,10 +56,10 @@ fn source_of(alloc: Global, value: &str) -> Result<Source, NoMemory>
 /// Reads a command line; the first word is the program's name.
 ///
 /// # Errors
-/// The first fault of the words, or want of memory.
+/// The first fault of the words, or want of memory, which comes only of words that are a command.
 pub fn read_line(alloc: Global, words: &[String]) -> Result<Config, LineFault>
-    ensures line { IfOk result (IsLine (map string_bytes words.now)) }
-    ensures fault { IfErr result (IsLineFault (map string_bytes words.now)) }
+    ensures command { IfOk result (IsCommandOf (map string_bytes words.now)) }
+    ensures fault { IfErr result (IsCommandFault (map string_bytes words.now)) }
 {
     let Some((a, b)) = command_values(words) else {
         return Err(LineFault::Usage(UsageFault::Line));
@@ -57,15 +67,8 @@ pub fn read_line(alloc: Global, words: &[String]) -> Result<Config, LineFault>
     if is_stdin(a) && is_stdin(b) {
         return Err(LineFault::Usage(UsageFault::Sources));
     }
-    make_config(alloc, a, b)
-}
-
-fn make_config(alloc: Global, a: &str, b: &str) -> Result<Config, LineFault>
-    ensures config { IfOk result (λ c. (c.a ≡ source_of_value a.now) × (c.b ≡ source_of_value b.now)) }
-    ensures memory { IfErr result (λ e. e ≡ LineFault.NoMemory) }
-{
-    match (source_of(alloc, a), source_of(alloc, b)) {
-        (Ok(a), Ok(b)) => Ok(Config { a, b }),
-        _ => Err(LineFault::NoMemory),
-    }
+    Ok(Config {
+        a: source_of(alloc, a)?,
+        b: source_of(alloc, b)?,
+    })
 }

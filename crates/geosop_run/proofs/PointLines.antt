@@ -1,20 +1,20 @@
--- The text by points is the text of the matrices of the point sets.
-use Rattle.std.proofs.Common.{◌≡◌, List, [], ◌∷◌, refl, subst}
-use Rattle.std.proofs.lemmas.List.Elements.{All-head, All-tail}
+-- Pairs of figures of points have lines, rows and texts.
+use Rattle.std.proofs.Common.{◌≡◌, ℕ, List, [], ◌∷◌, ◌++◌, refl, subst}
 use Rattle.std.specs.List.{All}
 use Rattle.im_matrix.specs.declared.Loc.{Loc}
 use Rattle.im_matrix.specs.declared.Loc.TheVariants.{Interior, Boundary, Exterior}
 use Rattle.im_matrix.specs.declared.Dim.{Dim}
 use Rattle.im_matrix.specs.declared.Row.{Row}
 use Rattle.im_matrix.specs.declared.Matrix.{Matrix}
-use Rattle.im_matrix.specs.Cells.{dimension_at, cell}
+use Rattle.im_matrix.specs.Cells.{dimension_at, cell, matrix_text}
 use Rattle.plane_exact.specs.declared.point.Pt.{Pt}
 use Rattle.point_set.specs.declared.figure.Figure.{Figure}
 use Rattle.point_set.specs.declared.rule.Rule.{Rule}
 use Rattle.point_set.specs.Dimension.{IsDimension}
 use Rattle.point_set.specs.Relation.{IsInCell}
-use Rattle.geosop_run.specs.Points.{HasPointsAlone, points_dimension, line_of_points, row_of_points, text_of_points}
+use Rattle.geosop_run.specs.Points.{HasPointsAlone, points_dimension}
 use Rattle.geosop_run.specs.Text.{IsLineOf, IsRowOf, IsTextOf}
+use Rattle.geosop_run.proofs.Parts.{some_text}
 use Rattle.geosop_run.proofs.PointMatrix.{points_matrix}
 
 -- the row of the matrix of two sets of points
@@ -44,31 +44,24 @@ in_matrix in_a in_b Exterior Interior = refl
 in_matrix in_a in_b Exterior Boundary = refl
 in_matrix in_a in_b Exterior Exterior = refl
 
-line_is : (a b : Figure) (rule : Rule) → HasPointsAlone a → HasPointsAlone b → IsLineOf a b rule (line_of_points a b)
-line_is a b rule h k = record {
-  matrix = matrix_of a.points b.points;
-  is_matrix = λ c.
-      subst (λ (d : Dim). IsDimension (IsInCell a b rule c) d) (in_matrix a.points b.points c.a c.b)
-      (points_matrix a b rule h.lines h.areas k.lines k.areas c);
-  spelled = refl;
-}
+-- a pair has a line
+some_line : (a b : Figure) (rule : Rule) → HasPointsAlone a → HasPointsAlone b → (line : List ℕ) × IsLineOf a b rule line
+some_line a b rule h k =
+    let matrix = matrix_of a.points b.points in (
+      matrix_text matrix ++ 10 ∷ [],
+      record {
+        matrix = matrix;
+        is_matrix = λ c.
+            subst (λ (d : Dim). IsDimension (IsInCell a b rule c) d) (in_matrix a.points b.points c.a c.b)
+            (points_matrix a b rule h.lines h.areas k.lines k.areas c);
+        spelled = refl;
+      },
+    )
 
-row_is : (a : Figure) (in_b : List Figure) (rule : Rule) → HasPointsAlone a → All HasPointsAlone in_b → IsRowOf a in_b rule (row_of_points in_b a)
-row_is a [] rule h k = refl
-row_is a (b ∷ others) rule h k = record {
-  first = line_of_points a b;
-  rest = row_of_points others a;
-  is_first = line_is a b rule h (All-head HasPointsAlone b others k);
-  is_rest = row_is a others rule h (All-tail HasPointsAlone b others k);
-  joined = refl;
-}
+-- a figure has a row with each list
+pub some_row : (a : Figure) (in_b : List Figure) (rule : Rule) → HasPointsAlone a → All HasPointsAlone in_b → (row : List ℕ) × IsRowOf a in_b rule row
+some_row a in_b rule h k = some_text (λ b. IsLineOf a b rule) in_b (λ i d below. some_line a _ rule h (k i d below))
 
-pub text_is : (in_a in_b : List Figure) (rule : Rule) → All HasPointsAlone in_a → All HasPointsAlone in_b → IsTextOf in_a in_b rule (text_of_points in_a in_b)
-text_is [] in_b rule h k = refl
-text_is (a ∷ others) in_b rule h k = record {
-  first = row_of_points in_b a;
-  rest = text_of_points others in_b;
-  is_first = row_is a in_b rule (All-head HasPointsAlone a others h) k;
-  is_rest = text_is others in_b rule (All-tail HasPointsAlone a others h) k;
-  joined = refl;
-}
+-- two lists have a text
+pub some_text_of : (in_a in_b : List Figure) (rule : Rule) → All HasPointsAlone in_a → All HasPointsAlone in_b → (text : List ℕ) × IsTextOf in_a in_b rule text
+some_text_of in_a in_b rule h k = some_text (λ a. IsRowOf a in_b rule) in_a (λ i d below. some_row _ in_b rule (h i d below) k)

@@ -3,7 +3,7 @@ use Rattle.std.proofs.Common.{◌≡◌, ◌∙◌, ◌∷◌, [], sym, ap, map,
 use Rattle.std.proofs.lemmas.Slice.Eq.{bytes_eq-Decides}
 use Rattle.std.specs.Str.{bytes_eq}
 use Rattle.geosop_run.proofs.Words.{six_items}
-use Rattle.geosop_run.proofs.line.command_values.Goals as goal
+use Rattle.geosop_run.proofs.command.command_values.Goals as goal
 
 -- a word that passed the test of equality is the other one
 same_word : {word text other : List ℕ} {test : Bool} → text ≡ word → test ≡ bytes_eq text other → test ≡ true → word ≡ other

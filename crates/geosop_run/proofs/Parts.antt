@@ -1,0 +1,146 @@
+-- Texts of one part for each item of a list, offered item by item.
+use Rattle.std.proofs.Common.{◌≡◌, ℕ, ◌+◌, ◌<◌, ◌≤◌, List, [], ◌∷◌, ◌++◌, Result, Ok, Err, refl, sym, subst, ◌∙◌, ap, append_assoc, length, length-append, take, drop, get_or, arith, inl, inr}
+use Rattle.std.specs.List.{All, flat_map}
+use Rattle.std.proofs.lemmas.List.{take_more, drop_more, take_all, take_at, drop_at, take-append-drop, take-append-le, append-nil}
+use Rattle.std.proofs.lemmas.List.Elements.{All-head, All-tail}
+use Rattle.std.proofs.Math.Seq.{take-add}
+use Rattle.geosop_io.specs.Sink.{SinkSeen, IsOffered, IsTried, HasFailedAt, after_taking, after_fault}
+use Rattle.geosop_io.proofs.Laws.{after_taking-nil, after_taking-append}
+use Rattle.geosop_run.specs.Text.{IsJoined, IsTextOfEach, IsTextOffered}
+
+-- a failure within one more part is one within all of the text
+pub failed_within : (old middle new : SinkSeen) (before part after : List ℕ) → middle ≡ after_taking old before
+    → HasFailedAt middle new part → HasFailedAt old new (before ++ (part ++ after))
+failed_within old middle new before part after taken failed =
+    let all = before ++ (part ++ after) in
+    let front : take (length before + failed.count) all ≡ before ++ take failed.count part
+    = take-add (length before) failed.count all
+    ∙ (λ j. take_at before (part ++ after) (length before) refl j
+    ++ take failed.count (drop_at before (part ++ after) (length before) refl j))
+    ∙ ap (λ more. before ++ more) (take-append-le failed.count part after failed.within) in
+    record {
+      count = length before + failed.count;
+      within = omega (arith, length-append before (part ++ after), length-append part after, failed.within);
+      taken = failed.taken
+          ∙ ap (λ seen. after_fault (after_taking seen (take failed.count part))) taken
+          ∙ ap after_fault (after_taking-append old before (take failed.count part) ∙ ap (after_taking old) (sym front));
+    }
+
+-- what was offered is tried, whatever came of it
+pub tried : {T E : Type 0} (result : Result T E) (old new : SinkSeen) (bytes : List ℕ) → IsOffered result old new bytes → IsTried old new bytes
+tried (Ok done) old new bytes h = inl h.whole
+tried (Err fault) old new bytes h = inr h.front
+
+-- what was offered are bytes that are equal to these
+pub offered_same : {T E : Type 0} {result : Result T E} {old new : SinkSeen} {xs ys : List ℕ} → xs ≡ ys
+    → IsOffered result old new xs → IsOffered result old new ys
+offered_same {T} {E} {result} {old} {new} e h = subst (λ bytes. IsOffered result old new bytes) e h
+
+module _ {X : Type 0} (IsPart : X → List ℕ → Type 0) where
+  -- the parts of one list behind those of another
+  parts-append : (xs ys : List X) (text more : List ℕ) → IsTextOfEach IsPart xs text → IsTextOfEach IsPart ys more
+      → IsTextOfEach IsPart (xs ++ ys) (text ++ more)
+  parts-append [] ys text more h k = subst (λ all. IsTextOfEach IsPart ys all) (ap (λ none. none ++ more) (sym h)) k
+  parts-append (x ∷ xs) ys text more h k = record {
+    first = h.first;
+    rest = h.rest ++ more;
+    is_first = h.is_first;
+    is_rest = parts-append xs ys h.rest more h.is_rest k;
+    joined = ap (λ all. all ++ more) h.joined ∙ append_assoc h.first h.rest more;
+  }
+
+  -- one part alone
+  one_part : (x : X) (part : List ℕ) → IsPart x part → IsTextOfEach IsPart (x ∷ []) part
+  one_part x part is = record { first = part; rest = []; is_first = is; is_rest = refl; joined = sym (append-nil part) }
+
+  -- there is a text where each item has a part
+  pub some_text : (xs : List X) → All (λ x. (part : List ℕ) × IsPart x part) xs → (text : List ℕ) × IsTextOfEach IsPart xs text
+  some_text [] h = ([], refl)
+  some_text (x ∷ xs) h =
+      let first = All-head (λ x. (part : List ℕ) × IsPart x part) x xs h in
+      let rest = some_text xs (All-tail (λ x. (part : List ℕ) × IsPart x part) x xs h) in
+      (first.0 ++ rest.0, record { first = first.0; rest = rest.0; is_first = first.1; is_rest = rest.1; joined = refl })
+
+  -- the sink took the parts of the first items
+  pub record HasTakenParts (xs : List X) (old new : SinkSeen) : Type 0 where
+    pub text : List ℕ
+    pub is_text : IsTextOfEach IsPart xs text
+    pub taken : new ≡ after_taking old text
+
+  pub taken_none : (seen : SinkSeen) → HasTakenParts [] seen seen
+  taken_none seen = record { text = []; is_text = refl; taken = after_taking-nil seen }
+
+  -- one more part was taken whole
+  pub taken_more : (xs : List X) (i : ℕ) (d x : X) (old middle new : SinkSeen) (part : List ℕ) → x ≡ get_or xs i d → i < length xs
+      → HasTakenParts (take i xs) old middle → IsPart x part → new ≡ after_taking middle part → HasTakenParts (take (i + 1) xs) old new
+  taken_more xs i d x old middle new part is h before is_part now = record {
+    text = before.text ++ part;
+    is_text = subst (λ items. IsTextOfEach IsPart items (before.text ++ part)) (sym (take_more xs i d h))
+        (parts-append (take i xs) (get_or xs i d ∷ []) before.text part before.is_text
+        (one_part (get_or xs i d) part (subst (λ item. IsPart item part) is is_part)));
+    taken = now ∙ ap (λ seen. after_taking seen part) before.taken ∙ after_taking-append old before.text part;
+  }
+
+  -- after the last item all parts are taken
+  pub taken_all : (xs : List X) (i : ℕ) (old new : SinkSeen) → length xs ≤ i → HasTakenParts (take i xs) old new → HasTakenParts xs old new
+  taken_all xs i old new h taken = subst (λ items. HasTakenParts items old new) (take_all i xs h) taken
+
+  -- a failure came within one more part, and the rest has parts too
+  pub failed_at : (xs : List X) (i : ℕ) (d x : X) (old middle new : SinkSeen) (part : List ℕ) → x ≡ get_or xs i d → i < length xs
+      → HasTakenParts (take i xs) old middle → IsPart x part → HasFailedAt middle new part
+      → (rest : (text : List ℕ) × IsTextOfEach IsPart (drop (i + 1) xs) text)
+      → (text : List ℕ) × IsTextOfEach IsPart xs text × HasFailedAt old new text
+  failed_at xs i d x old middle new part is h before is_part failed rest =
+      let all = before.text ++ (part ++ rest.0) in
+      let item = get_or xs i d in
+      let whole : take i xs ++ (item ∷ drop (i + 1) xs) ≡ xs
+      = ap (λ behind. take i xs ++ behind) (sym (drop_more xs i d h)) ∙ take-append-drop i xs in (
+        all,
+        subst (λ items. IsTextOfEach IsPart items all) whole
+            (parts-append (take i xs) (item ∷ drop (i + 1) xs) before.text (part ++ rest.0) before.is_text
+            (record {
+              first = part;
+              rest = rest.0;
+              is_first = subst (λ y. IsPart y part) is is_part;
+              is_rest = rest.1;
+              joined = refl;
+            })),
+        failed_within old middle new before.text part rest.0 before.taken failed,
+      )
+
+abbrev pub done : {E : Type 0} → Result (Unit {0}) E
+done = Ok tt
+
+abbrev pub failed_by : {E : Type 0} → E → Result (Unit {0}) E
+failed_by e = Err e
+
+-- all parts were taken
+pub text_offered : {X E : Type 0} (IsPart : X → List ℕ → Type 0) (xs : List X) (i : ℕ) (old new : SinkSeen) → length xs ≤ i
+    → HasTakenParts IsPart (take i xs) old new → IsTextOffered (IsTextOfEach IsPart xs) (done {E = E}) old new
+text_offered IsPart xs i old new h taken =
+    let all = taken_all IsPart xs i old new h taken in
+    record { text = all.text; is_text = all.is_text; offered = record { whole = all.taken; front = tt } }
+
+-- a failure came within one part
+pub text_failed : {X E : Type 0} (e : E) (IsPart : X → List ℕ → Type 0) (xs : List X) (i : ℕ) (d x : X) (old middle new : SinkSeen) (part : List ℕ)
+    → x ≡ get_or xs i d → i < length xs → HasTakenParts IsPart (take i xs) old middle → IsPart x part → HasFailedAt middle new part
+    → (rest : (text : List ℕ) × IsTextOfEach IsPart (drop (i + 1) xs) text) → IsTextOffered (IsTextOfEach IsPart xs) (failed_by e) old new
+text_failed e IsPart xs i d x old middle new part is h before is_part failed rest =
+    let all = failed_at IsPart xs i d x old middle new part is h before is_part failed rest in
+    record { text = all.0; is_text = all.1; offered = record { whole = tt; front = all.2 } }
+
+-- where each part is a function of its item, the text is theirs
+flat_text : {X : Type 0} (f : X → List ℕ) (xs : List X) (text : List ℕ) → IsTextOfEach (λ x part. part ≡ f x) xs text → text ≡ flat_map f xs
+flat_text f [] text h = h
+flat_text f (x ∷ xs) text h = h.joined ∙ (λ i. h.is_first i ++ flat_text f xs h.rest h.is_rest i)
+
+pub taken_flat : {X : Type 0} (f : X → List ℕ) (xs : List X) (old new : SinkSeen) → HasTakenParts (λ x part. part ≡ f x) xs old new
+    → new ≡ after_taking old (flat_map f xs)
+taken_flat f xs old new h = h.taken ∙ ap (after_taking old) (flat_text f xs h.text h.is_text)
+
+pub failed_flat : {X : Type 0} (f : X → List ℕ) (xs : List X) (i : ℕ) (d x : X) (old middle new : SinkSeen) → x ≡ get_or xs i d → i < length xs
+    → HasTakenParts (λ x part. part ≡ f x) (take i xs) old middle → HasFailedAt middle new (f x) → HasFailedAt old new (flat_map f xs)
+failed_flat f xs i d x old middle new is h before failed =
+    let rest = some_text (λ x part. part ≡ f x) (drop (i + 1) xs) (λ k e below. (f (get_or (drop (i + 1) xs) k e), refl)) in
+    let all = failed_at (λ x part. part ≡ f x) xs i d x old middle new (f x) is h before refl failed rest in
+    subst (λ text. HasFailedAt old new text) (flat_text f xs all.0 all.1) all.2
