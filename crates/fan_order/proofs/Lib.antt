@@ -1,3 +1,7 @@
-pub mod Middles
-pub mod Quotients
-pub mod Lists
+pub mod Laws
+mod EdgeWays
+mod Lists
+mod Middles
+mod Quotients
+mod Searches
+mod Walks

@@ -1,14 +1,19 @@
-ghost use Rattle.std.specs.Prelude.{◌≡◌, ◌<◌, ◌≤◌, ◌+◌, length, IfOk, IsOk, Some, slice_get, All, Contains};
+ghost use Rattle.std.specs.Prelude.{◌≡◌, ◌<◌, ◌≤◌, ◌+◌, ◌↔◌, length, IfOk, IsOk, IsTrue, Some, slice_get, All, Contains};
 ghost use Rattle.std.specs.List.{AllPairs, AllZip, Any};
 ghost use Rattle.std.specs.declared.cmp.Ordering.TheVariants.{Less};
 ghost use Rattle.plane_exact.specs.Orders.{direction_of, compare_angles, IsSameDirection};
 ghost use Rattle.point_set.specs.Sectors.{IsMiddle, IsInSector, sectors_of};
+ghost use Rattle.point_set.specs.Validity.{IsAtPlace};
 ghost use Rattle.fan_order.specs.Rays.{IsShort, IsRayOf, AreRaysOf};
+ghost use Rattle.fan_order.specs.Sections.{IsLineAlong, IsSectorInside, AreHandsAlike, AreSided};
+ghost use Rattle.plane_exact.specs.declared.dir.Dir.{Dir};
 
 use crate::lowest::lowest;
 use crate::middle::middle_between;
 use crate::ray::Ray;
 use crate::section::{Section, SectionList};
+use crate::walk::{is_any_inside, is_line_along};
+use im_matrix::Which;
 use plane_exact::{Dir, NoMemory};
 use smallvec::SmallVec;
 use std::alloc::Global;
@@ -93,6 +98,28 @@ impl Fan {
         let ray = self.rays[i];
         let next = self.rays[(i + 1) % count];
         middle_between(ray.dir, next.dir)
+    }
+
+    /// Whether the sector that lies counter-clockwise after ray `i` is inside an area of a figure, by the hands of its
+    /// sections. Where there is no ray it isn't.
+    pub fn is_inside(&self, which: Which, i: usize) -> bool
+        requires { i < sectors_of self.now.rays }
+        ensures inside { AreHandsAlike which self.now.sections → AreSided which self.now.sections
+            → (IsTrue result ↔ IsSectorInside which self.now.sections self.now.rays i) }
+    {
+        if self.rays.is_empty() {
+            return false;
+        }
+        is_any_inside(self.sections.as_slice(), self.rays.as_slice(), which, i)
+    }
+
+    /// Whether a line of a figure runs along ray `i`.
+    pub fn has_line(&self, which: Which, i: usize) -> bool
+        requires { i < length self.now.rays }
+        ensures line { (ray : Dir) → IsAtPlace self.now.rays i ray → (IsTrue result ↔ IsLineAlong which self.now.sections ray) }
+    {
+        let ray = self.rays[i];
+        is_line_along(self.sections.as_slice(), which, ray.dir)
     }
 }
 

@@ -8,6 +8,9 @@ mod ray;
 mod section;
 #[cfg(test)]
 mod tests;
+mod toward;
+mod walk;
 
 pub use fan::Fan;
 pub use section::{Section, SectionList};
+pub use toward::add_sections;

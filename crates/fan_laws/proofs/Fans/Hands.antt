@@ -35,7 +35,7 @@ use Rattle.ring_laws.proofs.Germs.Edges.{on_true}
 use Rattle.germ_laws.proofs.Sectors.Rays.{turned_way}
 use Rattle.side_laws.proofs.Areas.Hands.{area_shaped}
 use Rattle.fan_order.specs.declared.section.Section.{Section}
-use Rattle.fan_order.specs.Sections.{IsSectionToward, IsSectionAt, AreHandsAlike, IsFanOf}
+use Rattle.fan_order.specs.Sections.{IsSectionToward, IsSectionAt, IsAreaAlong, AreHandsAlike, AreSided, IsFanOf}
 use Rattle.germ_laws.proofs.Room.Starry.{not_here}
 use Rattle.germ_laws.proofs.Cover.Sectors.{item_at, cone_way}
 use Rattle.germ_laws.proofs.Sectors.BesideRay.{IsBare}
@@ -45,7 +45,6 @@ use Rattle.figure_laws.proofs.Edges.Owners.{IsEdgeOf, IsRingEdge, edge_of_owner,
 use Rattle.germ_laws.proofs.Rays.Ways.{one_way, HasRay}
 use Rattle.fan_laws.proofs.Fans.Rays.{section_cone, ray_of_section, IsRing, ring_owner, IsSectionOf, section_of_area, free_sector}
 use Rattle.figure_laws.proofs.Lists.Search.{HasSome}
-use Rattle.fan_laws.proofs.Walks.Walks.{IsAreaAlong, AreSided}
 use Rattle.germ_laws.proofs.Rays.Neighbours.{within_sector, IsBetween, within_from}
 
 -- ---- hands of edges of lines and of areas
@@ -151,12 +150,8 @@ module _ (which : Which) (f : Figure) (v : Point) (sections : List Section) (ray
     of_area = section_of_area which f v sections fan.are_sections k area is
 
     -- the hand of an area's section isn't Line
-    pub sided : AreSided which k sections
-    sided = record {
-      sided = λ s there which_is area_is line.
-          let x = of_area s there which_is area_is in
-          x.side.sided (line_hand x.forward s.hand line);
-    }
+    sided_area : (s : Section) → Contains sections s → s.which ≡ which → s.area ≡ Some k → ¬ (s.hand ≡ hand.Line)
+    sided_area s there which_is area_is line = let x = of_area s there which_is area_is in x.side.sided (line_hand x.forward s.hand line)
 
     -- the sector after a section's ray is inside where the hand is Left, and outside where it is Right
     pub hand_after : (ray : Dir) (h : HasSome (IsAreaAlong which k ray) sections) (j : ℕ) → IsAtPlace rays j ray → (d : Direction)
@@ -248,6 +243,13 @@ module _ (which : Which) (f : Figure) (v : Point) (sections : List Section) (ray
         ray : HasRay rays (direction_of t.s.dir)
         ray = ray_of_section sections rays fan.are_rays t.s t.there
 
+  -- each section of an area has it on one side
+  pub sided : AreSided which sections
+  sided = record {
+    sided = λ s there which_is k area_is.
+        let a = area_of_section s there which_is k area_is in sided_area k a.area a.is s there which_is area_is;
+  }
+
   -- ---- sections of one area along one way have one hand
   -- not Left and Right at once
   apart : (k : ℕ) (area : Area) → IsAtPlace f.areas k area → (ray : Dir) (s t : HasSome (IsAreaAlong which k ray) sections) (j : ℕ)
@@ -266,9 +268,9 @@ module _ (which : Which) (f : Figure) (v : Point) (sections : List Section) (ray
   alike_in_area k area is ray s t j ray_is d w hand.Left hand.Right e g = absurd (apart k area is ray s t j ray_is d w e g)
   alike_in_area k area is ray s t j ray_is d w hand.Right hand.Left e g = absurd (apart k area is ray t s j ray_is d w g e)
   alike_in_area k area is ray s t j ray_is d w hand.Line b e g =
-      absurd ((sided k area is).sided s.item s.there s.holds.which_is s.holds.area_is e)
+      absurd (sided.sided s.item s.there s.holds.which_is k s.holds.area_is e)
   alike_in_area k area is ray s t j ray_is d w a hand.Line e g =
-      absurd ((sided k area is).sided t.item t.there t.holds.which_is t.holds.area_is g)
+      absurd (sided.sided t.item t.there t.holds.which_is k t.holds.area_is g)
 
   -- lines have the hand Line; of an area two hands would make one sector both inside and outside
   pub hands_alike : AreHandsAlike which sections

@@ -6,7 +6,6 @@ use Rattle.std.specs.List.{Any, Contains}
 use Rattle.std.proofs.lemmas.Option.{slice_get_read}
 use Rattle.std.proofs.lemmas.List.Elements.{All-contains}
 use Rattle.im_matrix.specs.declared.Which.{Which}
-use Rattle.whole_algebra.proofs.Certificates.{same}
 use Rattle.plane_laws.proofs.Segments.Mixes.{segment_flip}
 use Rattle.plane_laws.proofs.Points.Same.{same_sym}
 use Rattle.plane_laws.specs.Plane.{Point, IsSamePoint}

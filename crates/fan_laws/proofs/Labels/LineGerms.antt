@@ -44,7 +44,7 @@ use Rattle.fan_laws.proofs.Fans.Hands.{line_hand, hand_line, at_point}
 use Rattle.germ_laws.proofs.Rays.Neighbours.{between_rays}
 use Rattle.germ_laws.proofs.Cover.Inside.{on_some_edge}
 use Rattle.figure_laws.proofs.Lists.Search.{HasSome, search_for}
-use Rattle.fan_laws.proofs.Walks.Walks.{same_which, same_direction}
+use Rattle.fan_order.proofs.Laws.{same_which, same_direction}
 
 -- ---- lines along a direction
 -- no edge of the way runs from v along d

@@ -24,7 +24,7 @@ use Rattle.point_set.specs.Validity.{IsAtPlace}
 use Rattle.ring_laws.proofs.Germs.Areas.{HasGerm, germ_exists, germ_one}
 use Rattle.side_laws.proofs.Areas.Hands.{area_shaped}
 use Rattle.fan_order.specs.declared.section.Section.{Section}
-use Rattle.fan_order.specs.Sections.{IsSectorInside, IsFanOf}
+use Rattle.fan_order.specs.Sections.{IsSectorInside, IsFanOf, IsAreaAlong}
 use Rattle.germ_laws.proofs.Cover.Germs.{HasCover, cover_of, cover_or_none}
 use Rattle.germ_laws.proofs.Cover.Sectors.{HasItem, item_at, covered_at, in_sector_of, is_exterior, not_exterior}
 use Rattle.germ_laws.proofs.Sectors.BesideRay.{sector_before_is_closed, sector_after_is_closed, bare_after}
@@ -35,7 +35,7 @@ use Rattle.germ_laws.proofs.Rays.Neighbours.{before_below, next_of_before, HasWi
 use Rattle.germ_laws.proofs.Cover.Inside.{IsNoAreaInteriorAt}
 use Rattle.fan_laws.proofs.Walks.SectorHands.{inside_is_interior, sector_by_hands}
 use Rattle.figure_laws.proofs.Lists.Search.{HasSome}
-use Rattle.fan_laws.proofs.Walks.Walks.{IsAreaAlong, find_along}
+use Rattle.fan_order.proofs.Laws.{find_along}
 
 -- ---- a covered sector covers its rays
 -- where an area's germ isn't Exterior the union covers
@@ -199,7 +199,7 @@ module _ (which : Which) (f : Figure) (v : Point) (sections : List Section) (ray
           ((hand_before which f v sections rays fan c.place c.area c.is ray h p ray_next u.d
           (record { ray = earlier.item; next = ray; ray_is = earlier.is; next_is = ray_next; within = u.within })).1 e)
       by_hand h hand.Line e =
-          (sided which f v sections rays fan c.place c.area c.is).sided h.item h.there h.holds.which_is h.holds.area_is e
+          (sided which f v sections rays fan).sided h.item h.there h.holds.which_is c.place h.holds.area_is e
 
       by_search : HasSome (IsAreaAlong which c.place ray) sections
           ⊎ ((s : Section) → Contains sections s → IsAreaAlong which c.place ray s → ⊥) → ⊥

@@ -24,13 +24,13 @@ use Rattle.ring_laws.proofs.Germs.Areas.{HasGerm, germ_exists, germ_one}
 use Rattle.point_set.specs.Shape.{IsAreaShaped}
 use Rattle.figure_laws.proofs.Lists.Places.{some_same}
 use Rattle.fan_order.specs.declared.section.Section.{Section}
-use Rattle.fan_order.specs.Sections.{IsStep, IsWalk, IsFanOf}
+use Rattle.fan_order.specs.Sections.{IsStep, IsWalk, IsFanOf, IsAreaAlong}
 use Rattle.germ_laws.proofs.Cover.Sectors.{HasItem, item_at}
 use Rattle.germ_laws.proofs.Sectors.BesideRay.{IsBare, bare_after, bare_before}
 use Rattle.fan_laws.proofs.Fans.Rays.{free_sector}
 use Rattle.fan_laws.proofs.Fans.Hands.{shape, sided, hand_after, bare_along, HasAreaRay, boundary_section}
 use Rattle.figure_laws.proofs.Lists.Search.{HasSome}
-use Rattle.fan_laws.proofs.Walks.Walks.{IsAreaAlong, find_along, walk_parts}
+use Rattle.fan_order.proofs.Laws.{find_along, walk_parts}
 use Rattle.germ_laws.proofs.Rays.Neighbours.{before_below, next_of_before, one_before, HasWithin, within_sector, IsBetween, between_rays, within_from, take_at, take_long}
 
 module _ (which : Which) (f : Figure) (v : Point) (sections : List Section) (rays : List Dir) (fan : IsFanOf which f v sections rays)
@@ -61,7 +61,7 @@ module _ (which : Which) (f : Figure) (v : Point) (sections : List Section) (ray
           let off = step.right h.item h.there h.holds.which_is h.holds.area_is h.holds.along e in
           (λ on. absurd (true≢false (sym on ∙ off)), λ _. ways.1 e)
       by_hand hand.Line e =
-          absurd ((sided which f v sections rays fan k area is).sided h.item h.there h.holds.which_is h.holds.area_is e)
+          absurd ((sided which f v sections rays fan).sided h.item h.there h.holds.which_is k h.holds.area_is e)
 
   -- at a ray without one the state stays, and so does the germ
   step_at_bare : (j : ℕ) (ray : Dir) → IsAtPlace rays j ray → ((s : Section) → Contains sections s → IsAreaAlong which k ray s → ⊥)

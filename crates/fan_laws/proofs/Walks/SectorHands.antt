@@ -31,7 +31,7 @@ use Rattle.germ_laws.proofs.Rays.Ways.{HasRay}
 use Rattle.fan_laws.proofs.Fans.Rays.{ray_of_section, IsSectionOf, section_of_area}
 use Rattle.fan_laws.proofs.Fans.Hands.{sided, hands_alike, HasArea, area_of_section, HasAreaRay, boundary_section}
 use Rattle.germ_laws.proofs.Rays.Neighbours.{sectors_some}
-use Rattle.fan_laws.proofs.Walks.Walks.{HasWalk, walk_exists}
+use Rattle.fan_order.proofs.Laws.{HasWalk, walk_exists}
 use Rattle.fan_laws.proofs.Walks.Germ.{walk_is_germ}
 use Rattle.germ_laws.proofs.Cover.Inside.{interior_of_one, IsNoAreaInteriorAt, on_some_edge}
 
@@ -96,7 +96,7 @@ module _ (which : Which) (f : Figure) (v : Point) (sections : List Section) (ray
           inl (subst (λ g. IsGerm area v d g) e (settled area (area_shaped f fan.shaped k area is) v (off_edges area v e) d))
       by_location Boundary e =
           let w =
-          walk_exists which k sections (hands_alike which f v sections rays fan) (sided which f v sections rays fan k area is)
+          walk_exists which k sections (hands_alike which f v sections rays fan) (sided which f v sections rays fan)
           (rays ++ take (i + 1) rays) false in
           by_walk e (boundary_section which f v sections rays fan k area is e) w.after w refl
 

@@ -1,0 +1,3 @@
+-- The lemmas on sections and walks that other crates may cite.
+pub use Rattle.fan_order.proofs.EdgeWays.{IsShort-section}
+pub use Rattle.fan_order.proofs.Walks.{same_which, same_direction, find_along, HasWalk, walk_exists, walk_parts, walk_joined, walk_unique}
