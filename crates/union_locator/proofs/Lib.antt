@@ -1,0 +1,3 @@
+mod AtPoints
+mod MeetingPlaces
+mod SingleAreas

@@ -1,0 +1,25 @@
+-- What the single areas of a figure say of a point.
+use Rattle.std.specs.Prelude.{◌≡◌, ℕ, [], List}
+use Rattle.std.specs.List.{All, Any}
+use Rattle.im_matrix.specs.declared.Loc.{Loc}
+use Rattle.im_matrix.specs.declared.Loc.TheVariants.{Interior, Boundary, Exterior}
+use Rattle.plane_laws.specs.Plane.{Point}
+use Rattle.point_set.specs.declared.figure.Area.{Area}
+use Rattle.point_set.specs.declared.figure.Figure.{Figure}
+use Rattle.point_set.specs.Location.{location}
+use Rattle.point_set.specs.Validity.{IsAtPlace}
+
+-- Where a point lies in the area at a place.
+abbrev pub IsInAreaAt : Figure → ℕ → Point → Loc → Type 0
+IsInAreaAt f place p loc = (area : Area) → IsAtPlace f.areas place area → loc ≡ location area p
+
+-- Interior where one of the areas has the point inside, else Boundary where one of them has it on its boundary, else Exterior.
+abbrev pub IsInAreas : List Area → Point → Loc → Type 0
+IsInAreas areas p Interior = Any (λ area. location area p ≡ Interior) areas
+IsInAreas areas p Boundary =
+    All (λ area. ¬ (location area p ≡ Interior)) areas × Any (λ area. location area p ≡ Boundary) areas
+IsInAreas areas p Exterior = All (λ area. location area p ≡ Exterior) areas
+
+-- The areas of a figure without its lines and points.
+abbrev pub areas_alone : Figure → Figure
+areas_alone f = record { points = []; lines = []; areas = f.areas }

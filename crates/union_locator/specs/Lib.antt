@@ -1,0 +1,4 @@
+pub use Rattle.ring_sides.specs.Rows
+pub mod Areas
+pub mod Nearby
+pub mod Plains
