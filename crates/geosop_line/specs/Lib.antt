@@ -1,2 +1,5 @@
 pub mod Arguments
+pub mod Figures
+pub mod Numbers
 pub mod Operations
+pub mod Settings

@@ -3,6 +3,9 @@
 
 mod arguments;
 mod config;
+mod figures;
+mod number;
 mod operation;
+mod settings;
 
 pub use config::{Config, LineFault, Source, UsageFault};

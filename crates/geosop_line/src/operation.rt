@@ -1,8 +1,11 @@
-ghost use Rattle.std.specs.Prelude.{◌≡◌, MatchOption};
-ghost use Rattle.geosop_line.specs.Operations.{operation_word};
+//! What is asked of each pair.
+ghost use Rattle.std.specs.Prelude.{◌≡◌, Some, MatchOption, MatchResult, option_map};
+ghost use Rattle.geosop_line.specs.Operations.{operation_word, Asks, IsQueryFault};
 ghost use Rattle.geosop_line.specs.declared.operation.Operation.{Operation};
 
-use im_matrix::Name;
+use crate::config::UsageFault;
+use im_matrix::{Name, Pattern};
+use topo_pred::Query;
 
 /// What the operation's word asks.
 #[derive(Clone, Copy, Debug, PartialEq, Eq)]
@@ -34,5 +37,34 @@ fn operation_of(word: &str) -> Option<Operation>
         "equals" => Some(Operation::Named(Name::Equals)),
         "containsProperly" => Some(Operation::Named(Name::ContainsProperly)),
         _ => None,
+    }
+}
+
+/// The query of an operation with this argument.
+fn asked(operation: Operation, argument: Option<&str>) -> Result<Query, UsageFault>
+    ensures query { MatchResult result
+        (Asks (Some (operation_word operation)) (option_map (λ s. s.now) argument.entry))
+        (IsQueryFault (Some (operation_word operation)) (option_map (λ s. s.now) argument.entry)) }
+{
+    match (operation, argument) {
+        (Operation::Relate, None) => Ok(Query::Relate),
+        (Operation::Named(name), None) => Ok(Query::Named(name)),
+        (Operation::RelatePattern, Some(text)) => match Pattern::parse(text) {
+            Ok(pattern) => Ok(Query::Match(pattern)),
+            Err(bad) => Err(UsageFault::BadMatch(bad.place)),
+        },
+        _ => Err(UsageFault::Argument),
+    }
+}
+
+/// The query of these values of the two positionals.
+pub(crate) fn query_of(operation: Option<&str>, argument: Option<&str>) -> Result<Query, UsageFault>
+    ensures query { MatchResult result
+        (Asks (option_map (λ s. s.now) operation.entry) (option_map (λ s. s.now) argument.entry))
+        (IsQueryFault (option_map (λ s. s.now) operation.entry) (option_map (λ s. s.now) argument.entry)) }
+{
+    match operation.and_then(operation_of) {
+        Some(operation) => asked(operation, argument),
+        None => Err(UsageFault::Operation),
     }
 }
