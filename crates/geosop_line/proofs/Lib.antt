@@ -1,2 +1,6 @@
 mod Commands
+mod FirstFaults
 mod NumberTexts
+mod PatternFaults
+mod Values
+mod Words

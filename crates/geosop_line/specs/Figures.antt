@@ -70,3 +70,9 @@ IsFiguresFault sample a b fault = ⊥
 abbrev pub AreFigures : Option (List ℕ) → Option (List ℕ) → Option (List ℕ) → Figures → Type 0
 AreFigures sample a b (OfSample n) = ComeFromSample sample a b n (Text []) (Text [])
 AreFigures sample a b (OfSources value_a value_b) = ComeFromSources sample a b (source_of value_a.now) (source_of value_b.now)
+
+-- The two sources and the sample's number, once they are made.
+abbrev pub AreMade : Figures → Source → Source → Option ℕ → Type 0
+AreMade (OfSample n) source_a source_b sample = (source_a ≡ Text []) × (source_b ≡ Text []) × (sample ≡ Some n)
+AreMade (OfSources value_a value_b) source_a source_b sample =
+    (source_a ≡ source_of value_a.now) × (source_b ≡ source_of value_b.now) × (sample ≡ None)

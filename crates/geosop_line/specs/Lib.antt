@@ -1,4 +1,5 @@
 pub mod Arguments
+pub mod CommandLine
 pub mod Figures
 pub mod Numbers
 pub mod Operations

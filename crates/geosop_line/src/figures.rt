@@ -1,7 +1,6 @@
 //! Where the two figures come from.
-ghost use Rattle.std.specs.Prelude.{◌≡◌, MatchResult, MatchOption, IfOk, option_map, IsTrue, ◌↔◌, codes};
-ghost use Rattle.geosop_line.specs.Numbers.{IsNumber};
-ghost use Rattle.geosop_line.specs.Figures.{AreFigures, AreFiguresOf, IsFiguresFault, is_stdin as is_stdin_so, source_of as source_of_value};
+ghost use Rattle.std.specs.Prelude.{◌≡◌, [], MatchResult, IfOk, option_map};
+ghost use Rattle.geosop_line.specs.Figures.{AreFigures, AreMade, IsFiguresFault, is_stdin as is_stdin_so, source_of as source_of_value};
 
 use crate::config::{Source, UsageFault};
 use crate::number::number_to;
@@ -67,5 +66,25 @@ pub(crate) fn figures_of<'a>(
             }
         }
         (None, _, _) => Err(UsageFault::Sources),
+    }
+}
+
+/// A source that is a text of no bytes, as under a sample.
+fn no_text(alloc: Global) -> Result<Source, NoMemory>
+    ensures source { IfOk result (λ s. s ≡ Source.Text []) }
+{
+    let word = Word::of(alloc, "")?;
+    Ok(Source::Text(word))
+}
+
+impl Figures<'_> {
+    /// The sources of A and B, and the sample's number, if any.
+    pub(crate) fn sources(self, alloc: Global) -> Result<(Source, Source, Option<u32>), NoMemory>
+        ensures made { IfOk result (λ r. AreMade self.entry r.0 r.1 r.2) }
+    {
+        match self {
+            Figures::OfSample(number) => Ok((no_text(alloc)?, no_text(alloc)?, Some(number))),
+            Figures::OfSources(a, b) => Ok((source_of(alloc, a)?, source_of(alloc, b)?, None)),
+        }
     }
 }

@@ -4,8 +4,10 @@
 mod arguments;
 mod config;
 mod figures;
+mod line;
 mod number;
 mod operation;
 mod settings;
 
 pub use config::{Config, LineFault, Source, UsageFault};
+pub use line::read_line;
