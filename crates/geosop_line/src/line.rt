@@ -56,6 +56,11 @@ fn config_of(alloc: Global, matches: &ArgMatches<'_>) -> Result<Config, LineFaul
 pub fn read_line(alloc: Global, words: &[String]) -> Result<Config, LineFault>
     ensures config { IfOk result (IsLine (map string_bytes words.now)) }
     ensures fault { IfErr result (IsLineFault (map string_bytes words.now)) }
+
+    // The other way round, up to want of memory: a configuration that there is comes, and so does a first fault.
+    ensures config_comes { (c : Config) → IsLine (map string_bytes words.now) c → (result ≡ Ok c) ⊎ (result ≡ Err LineFault.NoMemory) }
+    ensures fault_comes { (f : UsageFault) → IsFirstFault (map string_bytes words.now) f
+        → (result ≡ Err (LineFault.Usage f)) ⊎ (result ≡ Err LineFault.NoMemory) }
 {
     let matches = matches_in(alloc, words)?;
     config_of(alloc, &matches)
