@@ -1,0 +1,81 @@
+-- How a command of clap's is built up, and what its parse of the words gives.
+use Rattle.std.proofs.Common.{◌≡◌, ◌≢◌, ◌∙◌, ◌⊎◌, inl, inr, refl, ap, sym, subst, arith, suc, false, true, ℕ, List, [], ◌∷◌, map, fold, codes}
+use Rattle.std.specs.List.{All}
+use Rattle.clap.specs.Built.{AddsArg, AddsInTurn}
+use Rattle.clap.specs.Walk.{rows_of, rule_of}
+use Rattle.clap.specs.Simple.{App, HasMatchesOf, app_of, app_of_fields, is_simple, matches_of, new_app, on_top, with_rule}
+use Rattle.clap.specs.Kinds.{IsAmong, Kinds}
+use Rattle.clap.specs.Faults.{fault_of, is_simple_and_free}
+use Rattle.clap.specs.Matches.{found_of}
+use Rattle.clap.specs.declared.builder.arg.Arg.{Arg}
+use Rattle.clap.specs.declared.builder.command.Command.{Command}
+use Rattle.clap.specs.declared.builder.command.Command.TheViews.{out-Command}
+use Rattle.clap.specs.declared.error.kind.ErrorKind.{ErrorKind}
+use Rattle.clap.specs.declared.error.kind.ErrorKind.TheVariants.{OutOfMemory}
+use Rattle.clap.specs.declared.parser.matches.ArgMatches.{ArgMatches}
+use Rattle.clap.proofs.OnLiterals.{clap_on_literals}
+use Rattle.geosop_line.specs.Arguments.{command, matches, refusals, IsToldOf, told_as}
+
+-- arguments that aren't global, added in turn, are added as what a parse reads of them
+pub added_rules : (old : Command) (xs : List Arg) (new : Command) → AddsInTurn AddsArg old xs new → All (λ a. a.global ≡ false) xs
+    → app_of new ≡ fold with_rule (app_of old) (map rule_of xs)
+added_rules old [] new same local = ap app_of (sym same)
+added_rules old (x ∷ xs) new added local =
+    let rest = added_rules added.0 xs new added.2 (λ k d lt. local (suc k) d (omega arith)) in
+    rest ∙ ap (λ a. fold with_rule a (map rule_of xs)) (added.1.shape (local 0 x (omega arith)))
+
+-- a command without help of clap's own
+abbrev pub without_help : App → App
+without_help = on_top (λ s. record s { disable_help_flag = true })
+
+-- a command without version of clap's own
+abbrev pub without_version : App → App
+without_version = on_top (λ s. record s { disable_version_flag = true })
+
+-- a command that was told to have no help has none
+pub told_no_help : (old new : Command) → out-Command new ≡ record (out-Command old) { disable_help_flag = true } → app_of new ≡ without_help (app_of old)
+told_no_help old new told = ap app_of_fields told
+
+-- a command that was told to have no version has none
+pub told_no_version : (old new : Command) → out-Command new ≡ record (out-Command old) { disable_version_flag = true }
+    → app_of new ≡ without_version (app_of old)
+told_no_version old new told = ap app_of_fields told
+
+-- the command is one of which clap states the matches and the refusals
+is_stated : is_simple_and_free command ≡ true
+unfolding command clap_on_literals
+is_stated = refl
+
+-- and the matches alone
+is_simple_command : is_simple command ≡ true
+unfolding command clap_on_literals
+is_simple_command = refl
+
+-- the rows of a parse are the matches that clap states of the command
+pub rows_are_matches : (app : App) (words : List (List ℕ)) (m : ArgMatches) → app ≡ command → HasMatchesOf app words m → rows_of (found_of m) ≡ matches words
+unfolding matches
+rows_are_matches app words m is has = (has (ap is_simple is ∙ is_simple_command)).0 ∙ ap (λ a. matches_of a words) is
+
+-- a parse that succeeds has no refusal
+pub none_refused : (app : App) (words : List (List ℕ)) → app ≡ command → (is_simple_and_free app ≡ true → fault_of app words ≡ []) → refusals words ≡ []
+unfolding refusals
+none_refused app words is taken = ap (λ a. fault_of a words) (sym is) ∙ taken (ap is_simple_and_free is ∙ is_stated)
+
+-- an error is told rightly where there is a refusal
+told_of_some : (kind : ErrorKind) (kinds : Kinds) → kinds ≢ [] → IsToldOf kinds (told_as kind)
+told_of_some OutOfMemory kinds some = tt
+told_of_some kind kinds some = (refl, some)
+
+-- no kind is among none
+some_among : (kind : ErrorKind) (kinds : Kinds) → IsAmong kind kinds → kinds ≢ []
+some_among kind [] among none = among
+some_among kind (k ∷ ks) among none = cc
+
+-- an error of a parse is told rightly
+pub told_rightly : (app : App) (words : List (List ℕ)) (kind : ErrorKind) → app ≡ command
+    → (is_simple_and_free app ≡ true → (kind ≡ OutOfMemory) ⊎ IsAmong kind (fault_of app words)) → IsToldOf (refusals words) (told_as kind)
+unfolding refusals
+told_rightly app words kind is fails = elim (fails (ap is_simple_and_free is ∙ is_stated)) [
+  | inl memory ↦ rw memory tt
+  | inr among ↦ told_of_some kind _ (some_among kind _ (subst (λ a. IsAmong kind (fault_of a words)) is among))
+]

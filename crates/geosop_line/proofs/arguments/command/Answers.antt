@@ -1,0 +1,17 @@
+-- The command is built up as clap's own contracts say.
+use Rattle.std.proofs.Common.{◌≡◌, ◌∙◌, ap, ap₂, fold}
+use Rattle.std.proofs.lemmas.Result.{IfOk-weaker}
+use Rattle.clap.specs.Simple.{app_of, with_rule}
+use Rattle.geosop_line.specs.Arguments.{arguments, command}
+use Rattle.geosop_line.proofs.Commands.{added_rules, told_no_help, told_no_version, without_help, without_version}
+use Rattle.geosop_line.proofs.arguments.command.Goals as goal
+
+pub returns : goal.returns
+unfolding command
+returns c =
+    let bare = told_no_version _ c.disable_version_flag.result c.disable_version_flag.ensures
+    ∙ ap without_version (told_no_help _ c.disable_help_flag.result c.disable_help_flag.ensures ∙ ap without_help c.new.ensures.app) in
+    record {
+      command = IfOk-weaker c.args-2.result _ _ (λ r added. added_rules _ _ r added c.in_ok-arguments.ensures.local
+          ∙ ap₂ (fold with_rule) bare c.in_ok-arguments.ensures.rules) c.args-2.ensures;
+    }

@@ -1,0 +1,13 @@
+//! The command line of the program, read with clap.
+#![tactic(auto)]
+
+mod arguments;
+mod config;
+mod figures;
+mod line;
+mod number;
+mod operation;
+mod settings;
+
+pub use config::{Config, LineFault, Source, UsageFault};
+pub use line::read_line;
