@@ -14,10 +14,10 @@ use Rattle.std.proofs.lemmas.Cmp.{on_total}
 use Rattle.std.proofs.lemmas.List.Sorted.{IsPermutation-refl, IsPermutation-sym, IsPermutation-trans, IsPermutation-middle, IsPermutation-append_right}
 use Rattle.std.proofs.lemmas.Map.Entries.{lookup_at_gap}
 use Rattle.whole_algebra.proofs.Laws.{*ℤ_one}
-use Rattle.plane_exact.proofs.PlaneSame.{Decides-is_same_point}
-use Rattle.plane_exact.proofs.PointOrder.{compare_points_total, compare_points_same, same_compare_points}
+use Rattle.plane_laws.proofs.Points.Same.{Decides-is_same_point}
+use Rattle.plane_laws.proofs.Points.Order.{compare_points_total, compare_points_same, same_compare_points}
 use Rattle.plane_exact.specs.Places.{point_of}
-use Rattle.plane_exact.specs.Plane.{IsSamePoint}
+use Rattle.plane_laws.specs.Plane.{IsSamePoint}
 use Rattle.plane_exact.specs.declared.point.Pt.{Pt}
 use Rattle.point_set.specs.Lines.{is_at, count_at}
 use Rattle.bound_rule.specs.Counts.{ends_in}

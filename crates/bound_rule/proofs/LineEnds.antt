@@ -9,11 +9,11 @@ use Rattle.std.proofs.lemmas.List.{length-append, append_assoc, append-nil, drop
 use Rattle.std.proofs.lemmas.List.Sums.{sum_by-cons}
 use Rattle.std.proofs.lemmas.List.Sorted.{sum_by-IsPermutation, length_permutation, IsPermutation-refl, IsPermutation-trans, IsPermutation-push_more, IsPermutation-append_left}
 use Rattle.whole_algebra.proofs.Divisors.{Reduced, reduced_same}
-use Rattle.plane_exact.proofs.PlaneSame.{Decides-is_same_point}
-use Rattle.plane_exact.proofs.Points.{same_numbers}
+use Rattle.plane_laws.proofs.Points.Same.{Decides-is_same_point}
+use Rattle.plane_laws.proofs.Points.Numbers.{same_numbers}
 use Rattle.plane_exact.specs.NodePoints.{point_at}
 use Rattle.plane_exact.specs.Places.{point_of}
-use Rattle.plane_exact.specs.Plane.{Point, IsSamePoint}
+use Rattle.plane_laws.specs.Plane.{Point, IsSamePoint}
 use Rattle.plane_exact.specs.declared.node.Node.{Node}
 use Rattle.plane_exact.specs.declared.point.Pt.{Pt}
 use Rattle.point_set.specs.Lines.{last_after, is_still, ends_of, ends_of_lines, is_at, count_at}

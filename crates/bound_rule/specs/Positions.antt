@@ -1,6 +1,6 @@
 -- The order of positions.
 use Rattle.std.specs.declared.cmp.Ordering.{Ordering}
-use Rattle.plane_exact.specs.Orders.{compare_points}
+use Rattle.plane_laws.specs.Orders.{compare_points}
 use Rattle.plane_exact.specs.Places.{point_of}
 use Rattle.plane_exact.specs.declared.point.Pt.{Pt}
 

@@ -3,7 +3,7 @@ ghost use Rattle.std.specs.Ordering.{eq_by_cmp, as_partial_cmp};
 ghost use Rattle.std.specs.Prelude.{refl};
 ghost use Rattle.std.proofs.lemmas.Cmp.{on_total};
 ghost use Rattle.plane_exact.specs.Places.{point_of};
-ghost use Rattle.plane_exact.proofs.PointOrder.{compare_points_total};
+ghost use Rattle.plane_laws.proofs.Points.Order.{compare_points_total};
 ghost use Rattle.bound_rule.specs.Positions.{compare_positions};
 
 use plane_exact::Pt;

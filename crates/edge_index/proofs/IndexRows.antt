@@ -10,7 +10,7 @@ use Rattle.std.proofs.lemmas.Option.{slice_get-get_or, slice_get_within, get_or_
 use Rattle.plane_exact.specs.Windows.{IsLeastWindow}
 use Rattle.plane_exact.specs.declared.point.Seg.{Seg}
 use Rattle.plane_exact.specs.declared.window.Window.{Window}
-use Rattle.plane_exact.proofs.Boxes.{least_of_ends}
+use Rattle.plane_exact.proofs.Laws.{least_of_ends}
 use Rattle.edge_index.specs.declared.boxes.BoxRow.{BoxRow}
 use Rattle.edge_index.specs.Rows.{window_of, joined, no_segment, leaf_window, window_at, item_at, row_at, rows_of, AreAllPlaces, IsIndex}
 use Rattle.edge_index.specs.Segments.{IsWindowOf, IsLeafOf, SomeLeaf, AreLeavesOf}

@@ -3,7 +3,7 @@ use Rattle.std.proofs.Common.{◌≤ℤ◌, ℤ, inl, inr, arith}
 use Rattle.std.proofs.lemmas.Int.{ints, clamps}
 use Rattle.whole_algebra.proofs.Signs.{scale_≤ℤ_right, ≤ℤ_trans, <ℤ_weaken}
 use Rattle.plane_exact.specs.Places.{point_of}
-use Rattle.plane_exact.specs.Plane.{Point}
+use Rattle.plane_laws.specs.Plane.{Point}
 use Rattle.plane_exact.specs.Windows.{IsInWindow, IsWithin, IsLeastWindow, low_corner, high_corner}
 use Rattle.plane_exact.specs.declared.point.Seg.{Seg}
 use Rattle.plane_exact.specs.declared.window.Window.{Window}

@@ -7,8 +7,8 @@ use Rattle.std.proofs.lemmas.Bool.Decides.{Decides-and}
 use Rattle.std.proofs.lemmas.Option.{slice_get-get_or}
 use Rattle.plane_exact.specs.Windows.{IsLeastWindow, HasCommonPoint}
 use Rattle.plane_exact.specs.declared.window.Window.{Window}
-use Rattle.plane_exact.proofs.Boxes.{common_point, low_at_most_high}
-use Rattle.plane_exact.proofs.PlaneOn.{Decides-int_le}
+use Rattle.plane_exact.proofs.Laws.{common_point, low_at_most_high}
+use Rattle.plane_laws.proofs.Segments.On.{Decides-int_le}
 use Rattle.edge_index.specs.declared.boxes.BoxRow.{BoxRow}
 use Rattle.edge_index.specs.Rows.{no_window}
 use Rattle.edge_index.specs.Trees.{IsInEither, IsTreeOf, IsRowAt, inner_count, have_common_point}

@@ -2,7 +2,7 @@
 use Rattle.std.specs.Prelude.{◌≡◌, ℕ, ◌<◌, ◌≤◌, List, length, slice_get, Some, All, Contains}
 use Rattle.std.specs.List.Sorted.{IsStrictlyIncreasing}
 use Rattle.plane_exact.specs.Places.{point_of}
-use Rattle.plane_exact.specs.Plane.{IsOnSegment}
+use Rattle.plane_laws.specs.Plane.{IsOnSegment}
 use Rattle.plane_exact.specs.Windows.{IsLeastWindow, HasCommonPoint}
 use Rattle.plane_exact.specs.declared.point.Seg.{Seg}
 use Rattle.plane_exact.specs.declared.window.Window.{Window}

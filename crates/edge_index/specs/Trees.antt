@@ -2,7 +2,7 @@
 use Rattle.std.specs.Prelude.{◌≡◌, ℕ, ◌+◌, ◌-◌, ◌*◌, ◌/◌, ◌<◌, ◌≤◌, ◌⊎◌, Bool, ◌&&◌, List, [], length, take, slice_get, Some, All, Contains, count_by, int_le}
 use Rattle.std.specs.Int.{int_max, int_min}
 use Rattle.std.specs.List.Sorted.{IsStrictlyIncreasing}
-use Rattle.plane_exact.specs.Plane.{Point}
+use Rattle.plane_laws.specs.Plane.{Point}
 use Rattle.plane_exact.specs.Windows.{IsInWindow, IsLeastWindow, HasCommonPoint}
 use Rattle.plane_exact.specs.declared.window.Window.{Window}
 use Rattle.edge_index.specs.declared.boxes.BoxRow.{BoxRow}

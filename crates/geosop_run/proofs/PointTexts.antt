@@ -17,8 +17,8 @@ use Rattle.wkt_text.specs.declared.word.Tag.{Tag}
 use Rattle.wkt_text.specs.declared.token.Token.{Token}
 use Rattle.wkt_text.specs.declared.token.Token.TheVariants as token
 use Rattle.wkt_text.specs.declared.number.Numeral.{Numeral}
-use Rattle.wkt_text.proofs.Progress.{lexeme_moves}
-use Rattle.wkt_text.proofs.Exact.{type_of_geometry, spelling_first, type_is_no_end}
+use Rattle.wkt_text.proofs.Laws.{lexeme_moves}
+use Rattle.wkt_text.proofs.Laws.{type_of_geometry, spelling_first, type_is_no_end}
 use Rattle.geosop_run.specs.Points.{HasPointsAlone}
 use Rattle.geosop_run.specs.Sources.{is_unbuilt}
 

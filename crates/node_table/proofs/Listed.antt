@@ -14,7 +14,7 @@ use Rattle.std.proofs.lemmas.List.Kept.{AllPairs-cons}
 use Rattle.std.proofs.lemmas.Map.Entries.{lookup_at_gap}
 use Rattle.plane_exact.specs.NodePoints.{point_at}
 use Rattle.plane_exact.specs.declared.node.Node.{Node}
-use Rattle.plane_exact.proofs.PointOrder.{compare_points_total}
+use Rattle.plane_laws.proofs.Points.Order.{compare_points_total}
 use Rattle.fan_order.specs.declared.section.Section.{Section}
 use Rattle.node_table.specs.Orders.{compare_nodes}
 use Rattle.node_table.specs.Places.{Placed, listed, IsFree, AreOwnPlaces, AreKept, IsNew}

@@ -4,7 +4,7 @@ ghost use Rattle.std.specs.Prelude.{refl};
 ghost use Rattle.node_table.specs.Orders.{compare_nodes};
 ghost use Rattle.std.proofs.lemmas.Cmp.{on_total};
 ghost use Rattle.plane_exact.specs.NodePoints.{point_at};
-ghost use Rattle.plane_exact.proofs.PointOrder.{compare_points_total};
+ghost use Rattle.plane_laws.proofs.Points.Order.{compare_points_total};
 
 use plane_exact::{Node, cmp_nodes};
 use std::cmp::Ordering;

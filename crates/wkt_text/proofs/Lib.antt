@@ -1,3 +1,4 @@
+pub mod Laws
 pub mod Agree
 pub mod Alike
 pub mod Capped

@@ -1,6 +1,6 @@
 use Rattle.std.proofs.Common.{◌∙◌, sym, ap}
 use Rattle.plane_exact.specs.NodePoints.{point_at}
-use Rattle.plane_exact.specs.Plane.{Point}
+use Rattle.plane_laws.specs.Plane.{Point}
 use Rattle.point_set.specs.Lines.{ends_of_lines, count_at}
 use Rattle.bound_rule.proofs.LineEnds.{count-permutation, count-none}
 use Rattle.bound_rule.proofs.ends.EndTable.count.Goals as goal
