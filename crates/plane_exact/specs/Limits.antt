@@ -28,3 +28,7 @@ largest = 18446726481523507200
 -- The greatest distance of a node from a coordinate, times the node's weight. It is below 2^65.
 abbrev pub longest : ℕ
 longest = 36893452963047014400
+
+-- The greatest number of positions of one figure, and so of its edges.
+abbrev pub most_positions : ℕ
+most_positions = 1048576

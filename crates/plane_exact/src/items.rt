@@ -93,7 +93,7 @@ impl<T> ItemList<T> {
 
     /// The item at a place, counted from 0.
     pub fn at(&self, place: usize) -> &T
-        requires { place < length self.now }
+        requires within { place < length self.now }
         ensures item { result.now ≡ slice_index_or self.now place result.now }
     {
         &self.items[place]

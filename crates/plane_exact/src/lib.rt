@@ -24,7 +24,7 @@ pub use lists::{Path, PlaceList, SegList};
 pub use meter::{Count, Meter};
 pub use node::Node;
 pub use orders::{cmp_along, cmp_height, cmp_nodes, cmp_turn, is_before};
-pub use point::{LIMIT, Pt, Seg, in_limit};
+pub use point::{LIMIT, MOST_POSITIONS, Pt, Seg, in_limit};
 pub use sides::{on_segment, side_of};
 pub use sign::Sign;
 pub use turns::{orient, turn_of};

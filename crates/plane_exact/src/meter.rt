@@ -9,7 +9,7 @@ pub trait Meter {
 
     /// Counts one step.
     fn tick(&mut self)
-        requires { used self.old < 2 ^ 63 }
+        requires below { used self.old < 2 ^ 63 }
         ensures used { used self.new ≡ used self.old + 1 };
 }
 

@@ -23,7 +23,7 @@ impl Node {
 
     /// The node at a position.
     pub fn at_point(p: Pt) -> Node
-        requires { IsInLimit p }
+        requires limited { IsInLimit p }
         ensures point { point_at result ≡ point_of p }
     {
         Node {

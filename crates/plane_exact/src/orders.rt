@@ -39,7 +39,7 @@ pub fn cmp_nodes(m: &Node, n: &Node) -> Ordering
 
 /// The order of the node's y and the number `y`.
 pub fn cmp_height(n: &Node, y: i64) -> Ordering
-    requires { unsigned_abs y ≤ limit }
+    requires limited { unsigned_abs y ≤ limit }
     ensures order { result ≡ compare_fractions (point_at n.now).y (point_at n.now).w y (pos 1) }
 {
     cmp_fractions(n.y, n.w, i128::from(y), 1)

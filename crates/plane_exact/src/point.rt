@@ -4,6 +4,9 @@ ghost use Rattle.plane_exact.specs.Places.{IsInLimit};
 /// The greatest size of a coordinate.
 pub const LIMIT: i64 = 1_048_575;
 
+/// The greatest number of positions of one figure.
+pub const MOST_POSITIONS: usize = 1_048_576;
+
 /// A position with whole-number coordinates.
 #[derive(Clone, Copy, Debug, PartialEq, Eq)]
 pub struct Pt {

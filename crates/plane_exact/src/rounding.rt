@@ -2,7 +2,7 @@ ghost use Rattle.plane_exact.specs.Nodes.{IsFraction, IsRange};
 
 /// The whole numbers next to the fraction `x/w`, below and above it, or itself twice where it is whole.
 pub(crate) fn whole_range(x: i128, w: i128) -> (i64, i64)
-    requires { IsFraction x w }
+    requires fraction { IsFraction x w }
     ensures range { IsRange x w result.0 result.1 }
 {
     let quotient = (x / w) as i64;

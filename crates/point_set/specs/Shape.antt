@@ -3,6 +3,7 @@ use Rattle.std.specs.Prelude.{◌≡◌, ℕ, ◌+◌, ◌-◌, ◌≤◌, slice
 use Rattle.std.specs.List.{All, list_any}
 use Rattle.im_matrix.specs.declared.Dim.{Dim}
 use Rattle.im_matrix.specs.declared.Dim.TheVariants.{Empty, Zero, One, Two}
+use Rattle.plane_exact.specs.Limits.{most_positions}
 use Rattle.plane_exact.specs.Places.{IsInLimit}
 use Rattle.plane_exact.specs.declared.point.Pt.{Pt}
 use Rattle.point_set.specs.declared.figure.Area.{Area}
@@ -47,7 +48,7 @@ pub record IsWellShaped (f : Figure) : Type 0 where
   pub points : IsWayInLimit f.points
   pub lines : All IsLineShaped f.lines
   pub areas : All IsAreaShaped f.areas
-  pub few : positions_of f ≤ 1048576
+  pub few : positions_of f ≤ most_positions
 
 -- Whether a list has an item.
 abbrev pub has_item : {T : Type 0} → List T → Bool

@@ -1,11 +1,9 @@
 ghost use Rattle.std.specs.Prelude.{◌≡◌, ℕ, ◌+◌, ◌≤◌, IsTrue, ◌↔◌, length, All, sum_by, min};
+ghost use Rattle.plane_exact.specs.Limits.{most_positions};
 ghost use Rattle.point_set.specs.Shape.{IsWayInLimit, IsLineShaped, IsClosed, IsRingShaped, IsAreaShaped, IsWellShaped, positions_of, positions_of_area};
 
 use crate::figure::{Area, Figure, Paths};
-use plane_exact::{Path, in_limit};
-
-/// The greatest number of positions in one figure.
-const MOST_POSITIONS: usize = 1_048_576;
+use plane_exact::{MOST_POSITIONS, Path, in_limit};
 
 /// Whether a figure has the shape of a geometry: coordinates within the limit, lines of two positions or more, closed
 /// rings of four or more, and at most 1,048,576 positions in all. Takes no memory.
@@ -71,15 +69,15 @@ fn are_areas_shaped(f: &Figure) -> bool
 
 /// Adds to a count, and stops counting just above the limit.
 fn add_up(count: usize, more: usize) -> usize
-    requires { count ≤ 1048577 }
-    ensures sum { result ≡ min 1048577 (count + more) }
+    requires few { count ≤ most_positions + 1 }
+    ensures sum { result ≡ min (most_positions + 1) (count + more) }
 {
     count.saturating_add(more).min(MOST_POSITIONS + 1)
 }
 
 fn count_in_ways(count: usize, ways: &Paths) -> usize
-    requires { count ≤ 1048577 }
-    ensures sum { result ≡ min 1048577 (count + sum_by length ways.now) }
+    requires few { count ≤ most_positions + 1 }
+    ensures sum { result ≡ min (most_positions + 1) (count + sum_by length ways.now) }
 {
     let mut total = count;
     for way in ways.as_slice() {
@@ -89,14 +87,14 @@ fn count_in_ways(count: usize, ways: &Paths) -> usize
 }
 
 fn count_in_area(count: usize, area: &Area) -> usize
-    requires { count ≤ 1048577 }
-    ensures sum { result ≡ min 1048577 (count + positions_of_area area.now) }
+    requires few { count ≤ most_positions + 1 }
+    ensures sum { result ≡ min (most_positions + 1) (count + positions_of_area area.now) }
 {
     count_in_ways(add_up(count, area.shell.len()), &area.holes)
 }
 
 fn count_positions(f: &Figure) -> usize
-    ensures count { result ≡ min 1048577 (positions_of f.now) }
+    ensures count { result ≡ min (most_positions + 1) (positions_of f.now) }
 {
     let mut total = count_in_ways(add_up(0, f.points.len()), &f.lines);
     for area in f.areas.as_slice() {

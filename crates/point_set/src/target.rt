@@ -24,7 +24,7 @@ pub trait Target {
 
     /// The edge at a place of the list of the figure's edges. Takes no memory.
     fn edge(&self, id: EdgeId) -> Edge
-        requires { id.place < length (edges_of_figure (figure self.now)) }
+        requires within { id.place < length (edges_of_figure (figure self.now)) }
         ensures edge { IsEdgeAt (edges_of_figure (figure self.now)) id.place result }
         ensures hand { HasHand (figure self.now) result.owner result.seg result.hand };
 
