@@ -1,6 +1,5 @@
 pub mod Agree
 pub mod Alike
-pub mod Capped
 pub mod Counted
 pub mod Courses
 pub mod Ends
