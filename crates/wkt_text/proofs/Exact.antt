@@ -18,6 +18,7 @@ use Rattle.wkt_text.specs.declared.build.Build.{Build}
 use Rattle.wkt_text.specs.declared.read.Parsed.{Parsed}
 use Rattle.wkt_text.specs.declared.read.WktFault.{WktFault}
 use Rattle.wkt_text.specs.declared.read.WktFault.TheVariants as fault
+pub use Rattle.text_laws.proofs.Fronts.{prefix_len-all}
 use Rattle.wkt_text.specs.Tokens.{token_in, lexeme_at}
 use Rattle.wkt_text.specs.Building.{act}
 use Rattle.wkt_text.specs.Grammar.{Writing, joined, apart, Geometry, simple, empty_collection, collection, type_of_simple}
@@ -33,13 +34,6 @@ use Rattle.wkt_text.proofs.Spells.{spelled_run}
 use Rattle.wkt_text.proofs.Courses.{goes_split, err_same}
 use Rattle.wkt_text.proofs.FirstFaults.{Taken, agrees_so, continues_taken, unknown_not_ragged}
 use Rattle.wkt_text.proofs.Progress.{stands_compare, one_reading, right_front}
-
--- Where all pass, the front that passes is the whole list.
-pub prefix_len-all : (p : ℕ → Bool) (xs : List ℕ) → list_all p xs ≡ true → prefix_len p xs ≡ length xs
-prefix_len-all p [] h = refl
-prefix_len-all p (x ∷ xs) h =
-    let (first, rest) = and_parts (p x) (list_all p xs) h in
-    rw first (one-add (prefix_len p xs) ∙ ap suc (prefix_len-all p xs rest))
 
 white_end : (scale : ℕ) (bytes : List ℕ) (from : ℕ) → IsOnlyWhite bytes from → (lexeme_at scale bytes from).token ≡ token.End
 unfolding lexeme_at

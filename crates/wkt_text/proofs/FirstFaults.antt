@@ -101,7 +101,7 @@ continues_taken ts c b t rule k n =
     let x = first_move s.after t rule n.rest s.alike_after in
     let whole = s.joined ∙ ap (λ u. s.before ++ u) x.joined in
     let (d, went, (c', e, h)) = goes_split s.before (move t x.role ∷ x.more) start (subst (λ u. Run start u) whole (spelled_run g)) in
-    let same = k.tokens ∙ sym n.tokens ∙ sym (alike_tokens s.alike_before) in
+    let same : tokens_in k.front ≡ tokens_in s.before = k.tokens ∙ sym n.tokens ∙ sym (alike_tokens s.alike_before) in
     let (fronts, controls) = goes_same k.front s.before start c d k.goes went same in
     let a = agrees_so g (s.before ++ move t x.role ∷ x.more) (n.front ++ slot t rule ∷ n.rest) whole n.spelled in
     let built = ap (builds start_build) (sym fronts) ∙ k.kept in
@@ -109,7 +109,7 @@ continues_taken ts c b t rule k n =
     record {
       role = x.role;
       control = c';
-      next = ap (λ u. advance u t) controls ∙ e;
+      next = subst (λ u. advance u t ≡ Some (x.role, c')) (sym controls) e;
       third = x.third;
       meets = agrees_first (move t x.role) (slot t rule) x.more n.rest rest.agrees;
     }

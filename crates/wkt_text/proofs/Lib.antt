@@ -1,7 +1,6 @@
 pub mod Laws
 pub mod Agree
 pub mod Alike
-pub mod Capped
 pub mod Counted
 pub mod Courses
 pub mod Ends

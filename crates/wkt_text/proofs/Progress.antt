@@ -1,5 +1,5 @@
 -- The reader goes on through the bytes.
-use Rattle.std.proofs.Common.{◌≡◌, ℕ, ◌<◌, true, false, Some, None, Result, Ok, Err, List, [], ◌∷◌, ◌++◌, ◌⊎◌, inl, inr, refl, sym, ap, subst, ◌∙◌, drop, arith}
+use Rattle.std.proofs.Common.{◌≡◌, ℕ, ◌<◌, true, false, Some, None, Result, Ok, Err, IsOk, List, [], ◌∷◌, ◌++◌, ◌⊎◌, inl, inr, refl, sym, ap, subst, ◌∙◌, drop, arith}
 use Rattle.std.specs.Char.{is_ascii_alphabetic}
 use Rattle.wkt_text.specs.declared.token.Token.{Token}
 use Rattle.wkt_text.specs.declared.token.Token.TheVariants as token
@@ -14,7 +14,7 @@ use Rattle.wkt_text.specs.declared.state.Control.{Control}
 use Rattle.wkt_text.specs.declared.control.WktKind.{WktKind}
 use Rattle.wkt_text.specs.declared.build.Build.{Build}
 use Rattle.wkt_text.specs.Machine.{advance, advance_by, is_done}
-use Rattle.wkt_text.specs.Reading.{IsTaken, IsFaulty, FailsAt}
+use Rattle.wkt_text.specs.Reading.{IsTaken, IsFaulty, IsWanting, FailsAt}
 use Rattle.wkt_text.specs.Results.{IsFirstFault}
 use Rattle.wkt_text.specs.declared.read.WktFault.{WktFault}
 use Rattle.wkt_text.specs.declared.read.WktFault.TheVariants as fault
@@ -30,7 +30,7 @@ use Rattle.point_set.specs.declared.figure.Figure.{Figure}
 use Rattle.std.proofs.lemmas.List.{append_assoc, append-nil}
 use Rattle.std.proofs.lemmas.Bool.{cases_Bool}
 use Rattle.std.proofs.lemmas.Option.{none-some}
-use Rattle.wkt_text.specs.Faults.{Stands, Reads, IsRight, IsOnlyWhite, FirstFault}
+use Rattle.wkt_text.specs.Faults.{Stands, Reads, IsRight, IsOnlyWhite, FirstFault, RunsOut}
 use Rattle.wkt_text.proofs.Counted.{built_counted}
 use Rattle.wkt_text.proofs.Spells.{spelled_run}
 use Rattle.wkt_text.proofs.Courses.{run_goes, goes_same, builds, tokens_parted, ok_same}
@@ -265,11 +265,25 @@ so_far_fault scale bytes from place c b kind start_place some not_done s f e = r
   place_is = e;
 }
 
+ok_of : (r : Result Build WktKind) → IsOk r → (d : Build) × (r ≡ Ok d)
+ok_of (Ok d) h = (d, refl)
+ok_of (Err k) h = absurd (cc)
+
+-- Where the reader wants memory, the token is right.
+so_far_wants : (scale : ℕ) (bytes : List ℕ) (from place : ℕ) (c : Control) (b : Build) → SoFar scale bytes from place c b →
+    IsWanting c b (lexeme_at scale bytes place).token → RunsOut scale bytes from
+so_far_wants scale bytes from place c b s w =
+    let (d, e) = ok_of (act b w.role (lexeme_at scale bytes place).token) w.kept in
+    let more = taken_more s.tokens c w.control b d _ s.taken (record { role = w.role; next = w.next; done = e }) in
+    record { before = s.tokens; after = place; stands = s.stands; right = taken_right _ w.control d more }
+
+-- Where the reader stops, it is at the first fault, or memory ran out before it.
 pub so_far_stop : (scale : ℕ) (bytes : List ℕ) (from place : ℕ) (c : Control) (b : Build) (e : WktFault) →
     (IsOnlyWhite bytes from → ⊥) → (c.step ≡ Done → ⊥) → SoFar scale bytes from place c b →
     FailsAt e (lexeme_at scale bytes place).start c b (lexeme_at scale bytes place).token → IsFirstFault e scale bytes from
-so_far_stop scale bytes from place c b (fault.Bad kind at_place) some not_done s (e, f) = so_far_fault scale bytes from place c b kind at_place some not_done s f e
-so_far_stop scale bytes from place c b fault.NoMemory some not_done s h = tt
+so_far_stop scale bytes from place c b (fault.Bad kind at_place) some not_done s (e, f) =
+    so_far_fault scale bytes from place c b kind at_place some not_done s f e
+so_far_stop scale bytes from place c b fault.NoMemory some not_done s w = so_far_wants scale bytes from place c b s w
 
 pub not_done_from : (step : Step) → is_done step ≡ false → step ≡ Done → ⊥
 not_done_from Done e f = absurd (cc)

@@ -25,8 +25,9 @@ use Rattle.wkt_text.specs.declared.word.TypeWord.{TypeWord}
 use Rattle.wkt_text.specs.declared.word.Tag.{Tag}
 use Rattle.wkt_text.specs.Bytes.{is_numeric}
 use Rattle.wkt_text.specs.Words.{tag_of, type_of}
-use Rattle.wkt_text.specs.Numbers.{signed, size_of, ratio_of, is_minus, is_formed, numeral_of}
-use Rattle.wkt_text.specs.Numbers as numbers
+use Rattle.text_laws.specs.Numbers.{signed, size_of, ratio_of, is_minus, is_formed}
+use Rattle.text_laws.specs.Numbers as numbers
+use Rattle.wkt_text.specs.Numbers.{numeral_of}
 use Rattle.wkt_text.specs.Tokens.{tag_token, type_token, is_name, word_token, word_in, number_in, is_number_start, mark, token_in, place_of, lexeme_at}
 use Rattle.wkt_text.specs.Faults.{Stands, Reads}
 use Rattle.wkt_text.specs.Rules.{tokens_of}

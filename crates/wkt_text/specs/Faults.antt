@@ -118,3 +118,10 @@ pub record FirstFault (scale : ℕ) (bytes : List ℕ) (from : ℕ) (kind : WktK
   pub wrong : IsRight (before ++ (lexeme_at scale bytes after).token ∷ []) → ⊥
   pub kind_is : HasKind before (lexeme_at scale bytes after).token kind
   pub place_is : place ≡ (lexeme_at scale bytes after).start
+
+-- Memory may run out at a token that is right after those before it. So it never runs out at the first faulty token or after it.
+pub record RunsOut (scale : ℕ) (bytes : List ℕ) (from : ℕ) : Type 0 where
+  pub before : List Token
+  pub after : ℕ
+  pub stands : Stands scale bytes from before after
+  pub right : IsRight (before ++ (lexeme_at scale bytes after).token ∷ [])

@@ -5,12 +5,12 @@ use Rattle.wkt_text.specs.declared.control.WktKind.{WktKind}
 use Rattle.wkt_text.specs.declared.read.Parsed.{Parsed}
 use Rattle.wkt_text.specs.declared.read.WktFault.{WktFault}
 use Rattle.wkt_text.specs.declared.read.WktFault.TheVariants as fault
-use Rattle.wkt_text.specs.Faults.{FirstFault}
+use Rattle.wkt_text.specs.Faults.{FirstFault, RunsOut}
 
--- A fault of a text is its first fault, unless memory is wanting.
+-- A fault of a text is its first fault, or memory ran out before it.
 abbrev pub IsFirstFault : WktFault → ℕ → List ℕ → ℕ → Type 0
 IsFirstFault (fault.Bad kind place) scale bytes from = FirstFault scale bytes from kind place
-IsFirstFault fault.NoMemory scale bytes from = Unit {0}
+IsFirstFault fault.NoMemory scale bytes from = RunsOut scale bytes from
 
 -- The answer is this figure and end, unless memory is wanting.
 abbrev pub IsReadAs : Result (Option Parsed) WktFault → Figure → ℕ → Type 0

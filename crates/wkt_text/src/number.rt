@@ -2,7 +2,9 @@ ghost use Rattle.std.specs.Prelude.{◌≡◌, ◌<◌, ◌≤◌, ◌+◌, ◌-
 ghost use Rattle.std.specs.List.{list_all, fold};
 ghost use Rattle.std.specs.Char.{is_ascii_digit};
 ghost use Rattle.wkt_text.specs.Limits.{most_bytes};
-ghost use Rattle.wkt_text.specs.Numbers.{mantissa, after_mantissa, whole_part, fraction_part, unsigned, is_minus, is_zero, is_exponent, exponent_size, is_exponent_minus, up_of, down_of, numeral_of, read_on, capped, kept_value, judged};
+ghost use Rattle.plane_exact.specs.Limits.{limit};
+ghost use Rattle.text_laws.specs.Numbers.{mantissa, after_mantissa, whole_part, fraction_part, unsigned, is_minus, is_zero, is_exponent, exponent_size, is_exponent_minus, up_of, down_of, read_on, capped, kept_value};
+ghost use Rattle.wkt_text.specs.Numbers.{numeral_of, judged};
 
 use crate::runs::{Class, run_end};
 use crate::scale::Scale;
@@ -158,7 +160,7 @@ fn kept_value(whole: &[u8], fraction: &[u8], shift: Shift) -> Option<u32>
     requires few { length whole.now + length fraction.now ≤ most_bytes }
     requires whole { IsTrue (list_all is_ascii_digit whole.now) }
     requires fraction { IsTrue (list_all is_ascii_digit fraction.now) }
-    ensures value { result ≡ kept_value (whole.now ++ fraction.now) (length whole.now + length fraction.now - shift.dropped) shift.zeros }
+    ensures value { result ≡ kept_value (limit + 1) (whole.now ++ fraction.now) (length whole.now + length fraction.now - shift.dropped) shift.zeros }
 {
     let kept = (whole.len() + fraction.len()).saturating_sub(shift.dropped);
     let split = kept.min(whole.len());

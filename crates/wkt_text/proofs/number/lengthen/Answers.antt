@@ -1,6 +1,6 @@
 use Rattle.std.proofs.Common.{◌≡◌, ◌+◌, ◌-◌, ◌*◌, ◌^◌, suc, min, ap, ◌∙◌, arith}
-use Rattle.wkt_text.specs.Numbers.{capped}
-use Rattle.wkt_text.proofs.Capped.{capped-zeros-more, settled_zero, settled_cap}
+use Rattle.text_laws.specs.Numbers.{capped}
+use Rattle.text_laws.proofs.Numbers.Capped.{capped-zeros-more, settled_zero, settled_cap}
 use Rattle.wkt_text.proofs.number.lengthen.Goals as goal
 use Rattle.wkt_text.proofs.number.lengthen.Goals.{then-size-eq0-via-then-size-eq0, then-size-eq0-via-else-size-eq0+then-size-eq-CAP}
 

@@ -1,5 +1,5 @@
 use Rattle.std.proofs.Common.{◌≡◌, ◌≤◌, ◌-◌, ◌*◌, ◌^◌}
-use Rattle.wkt_text.specs.Numbers.{capped}
+use Rattle.text_laws.specs.Numbers.{capped}
 use Rattle.wkt_text.proofs.number.lengthen.Given as goal
 
 abbrev pub invariant-loop-step : goal.invariant-loop-step

@@ -1,5 +1,6 @@
 use Rattle.std.proofs.Common.{◌+◌, nat_lt, length, sym, ◌∙◌, arith}
-use Rattle.wkt_text.proofs.Values.{formed, formed_by, digits_both}
+use Rattle.text_laws.proofs.Numbers.Forms.{formed_by, digits_both}
+use Rattle.wkt_text.proofs.Values.{formed}
 use Rattle.wkt_text.proofs.number.read_number.Goals as goal
 
 pub returns : goal.returns

@@ -1,7 +1,7 @@
 use Rattle.std.proofs.Common.{◌≡◌, ◌+◌, ◌-◌, ◌*◌, min, drop, get_or, ap, ◌∙◌, arith}
 use Rattle.std.specs.Char.{is_ascii_digit}
-use Rattle.wkt_text.specs.Numbers.{read_on, capped}
-use Rattle.wkt_text.proofs.Capped.{capped-read_on-more, list_all-more}
+use Rattle.text_laws.specs.Numbers.{read_on, capped}
+use Rattle.text_laws.proofs.Numbers.Capped.{capped-read_on-more, list_all-more}
 use Rattle.wkt_text.proofs.number.read_on.Goals as goal
 
 pub loop-b-preserved : goal.loop-b-preserved

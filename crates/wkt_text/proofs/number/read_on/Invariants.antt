@@ -1,7 +1,7 @@
 use Rattle.std.proofs.Common.{◌≡◌, ◌≤◌, IsTrue, drop}
 use Rattle.std.specs.List.{list_all}
 use Rattle.std.specs.Char.{is_ascii_digit}
-use Rattle.wkt_text.specs.Numbers.{read_on, capped}
+use Rattle.text_laws.specs.Numbers.{read_on, capped}
 use Rattle.wkt_text.proofs.number.read_on.Given as goal
 
 abbrev pub invariant-loop-b : goal.invariant-loop-b

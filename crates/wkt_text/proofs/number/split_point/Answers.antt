@@ -1,7 +1,7 @@
 use Rattle.std.proofs.Common.{◌≡◌, arith}
 use Rattle.std.specs.List.{prefix_len}
 use Rattle.std.specs.Char.{is_ascii_digit}
-use Rattle.wkt_text.proofs.Values.{list_all-prefix, rest_after}
+use Rattle.text_laws.proofs.Fronts.{list_all-prefix, rest_after}
 use Rattle.wkt_text.proofs.number.split_point.Goals as goal
 
 pub returns-in-empty-clause-digits : goal.returns-in-empty-clause-digits

@@ -2,8 +2,8 @@ use Rattle.std.proofs.Common.{◌≡◌, length, drop, arith, length-drop}
 use Rattle.std.proofs.lemmas.Result.{err_from_is_err_and}
 use Rattle.std.specs.List.{prefix_len}
 use Rattle.wkt_text.specs.Bytes.{is_white}
-use Rattle.wkt_text.proofs.Values.{list_all-whole}
-use Rattle.wkt_text.proofs.Exact.{prefix_len-all, white_unread, read_as, fault_read_as, fault_as}
+use Rattle.text_laws.proofs.Fronts.{list_all-whole, prefix_len-all}
+use Rattle.wkt_text.proofs.Exact.{white_unread, read_as, fault_read_as, fault_as}
 use Rattle.wkt_text.proofs.Shapes.{reads_shaped}
 use Rattle.wkt_text.proofs.read.read_next.Goals as goal
 

@@ -5,7 +5,7 @@ use Rattle.std.proofs.lemmas.Bool.Decides.{nat_tests}
 use Rattle.std.proofs.lemmas.List.{drop_more}
 use Rattle.std.proofs.Math.Nat.{zero-mul, mul_assoc, pow-succ', le-mul_of_pos_right}
 use Rattle.std.specs.List.{list_all}
-use Rattle.wkt_text.specs.Numbers.{read_on, capped}
+use Rattle.text_laws.specs.Numbers.{read_on, capped}
 
 -- More digits make no number smaller.
 pub read_on-grows : (n : ℕ) (text : List ℕ) → n ≤ read_on n text
