@@ -11,8 +11,8 @@ use Rattle.wkt_text.specs.Words.{type_of, type_at}
 use Rattle.wkt_text.specs.declared.runs.Class.TheVariants.{Letter}
 use Rattle.wkt_text.specs.Faults.{FirstFault, IsOnlyWhite}
 use Rattle.wkt_text.specs.declared.control.WktKind.{WktKind}
-use Rattle.wkt_text.proofs.Laws.{one_reading}
-use Rattle.wkt_text.proofs.Laws.{white_unread, one_fault, prefix_len-all}
+use Rattle.wkt_text.proofs.Laws.{one_reading, white_unread, one_fault}
+use Rattle.text_laws.proofs.Fronts.{prefix_len-all}
 use Rattle.geosop_run.specs.declared.status.Refusal.{Refusal}
 use Rattle.geosop_run.specs.declared.status.Refusal.TheVariants as refusal
 use Rattle.geosop_run.specs.Sources.{IsBuilt, AreBuilt, is_unbuilt, IsSource, IsUnbuiltAt, IsFaultAt, IsRefusalOf, IsAdmitted, IsFirstRefusal}
