@@ -1,23 +1,13 @@
 -- The answers to a command line, from those of clap and of the matches.
-use Rattle.std.proofs.Common.{◌≡◌, ◌≢◌, ◌⊎◌, inl, inr, refl, ap, sym, subst, arith, ℕ, List, [], Result, Ok, Err, IfOk, IfErr}
+use Rattle.std.proofs.Common.{◌≡◌, ◌⊎◌, inl, inr, refl, ap, sym, subst, ℕ, List, [], Result, Ok, Err, IfOk, IfErr}
 use Rattle.clap.specs.Walk.{Row}
-use Rattle.clap.specs.Kinds.{Kinds}
-use Rattle.geosop_line.specs.Arguments.{IsToldOf, matches, refusals}
-use Rattle.geosop_line.specs.CommandLine.{IsConfig, IsFaultOf, IsFirst, IsFirstFault, IsLine, IsLineFault}
+use Rattle.geosop_line.specs.Arguments.{matches, refusals}
+use Rattle.geosop_line.specs.CommandLine.{IsConfig, IsFaultOf, IsFirstFault, IsLine, IsLineFault}
 use Rattle.geosop_line.specs.declared.config.Config.{Config}
 use Rattle.geosop_line.specs.declared.config.LineFault.{LineFault}
 use Rattle.geosop_line.specs.declared.config.LineFault.TheVariants.{Usage, NoMemory}
 use Rattle.geosop_line.specs.declared.config.UsageFault.{UsageFault}
-use Rattle.geosop_line.specs.declared.config.UsageFault.TheVariants.{Line}
 use Rattle.geosop_line.proofs.OneAnswer.{config_passes, one_config, one_first}
-
--- what clap's error is told as is the first fault
-pub told_is_first : (refused : Kinds) (rows : List Row) (e : LineFault) → IsToldOf refused e → IsFaultOf refused rows e
-told_is_first refused rows (Usage fault) told = subst (IsFirst refused rows) (sym told.0) (record {
-  fails = told.1;
-  first = λ other before. absurd (omega arith);
-})
-told_is_first refused rows NoMemory told = tt
 
 -- an answer of the matches of a line is one of the line
 pub answers_line : (words : List (List ℕ)) (rows : List Row) (r : Result Config LineFault) → rows ≡ matches words → refusals words ≡ []
@@ -38,4 +28,5 @@ pub fault_comes : (words : List (List ℕ)) (r : Result Config LineFault) → If
     → (f : UsageFault) → IsFirstFault words f → (r ≡ Err (Usage f)) ⊎ (r ≡ Err NoMemory)
 fault_comes words (Ok d) ok err f is = absurd (config_passes (refusals words) (matches words) d ok.taken ok.has f is.fails)
 fault_comes words (Err NoMemory) ok err f is = inr refl
-fault_comes words (Err (Usage g)) ok err f is = inl (ap (λ (h : UsageFault). Err (Usage h)) (one_first (refusals words) (matches words) g f err is))
+fault_comes words (Err (Usage g)) ok err f is =
+    inl (ap (λ (h : UsageFault). Err (Usage h)) (one_first (refusals words) (matches words) g f err is))

@@ -1,19 +1,20 @@
 -- From the faults of each part of the line to the first fault of all.
-use Rattle.std.proofs.Common.{◌≡◌, ◌≢◌, ◌∙◌, ◌<◌, ◌≤◌, ◌+◌, ◌⊎◌, inl, inr, refl, ap, sym, subst, arith, suc, ℕ, List, [], ◌∷◌, Option, Some, None, IsSome, IsNone, codes, slice_index_or}
+use Rattle.std.proofs.Common.{◌≡◌, ◌≢◌, ◌∙◌, ◌<◌, ◌+◌, inl, inr, refl, ap, sym, subst, arith, ℕ, List, [], ◌∷◌, Option, Some, None, codes, slice_index_or}
 use Rattle.std.proofs.lemmas.Bool.{cases_lt}
 use Rattle.std.proofs.lemmas.Option.{none-some, same_Some}
-use Rattle.clap.specs.Walk.{Row}
-use Rattle.clap.specs.Kinds.{Kinds}
+use Rattle.clap.specs.Matches.{first_value}
+use Rattle.clap.specs.Walk.{Row, rows_of}
+use Rattle.clap.specs.declared.parser.matches.Found.{Found}
 use Rattle.point_set.specs.declared.rule.Rule.{Rule}
 use Rattle.topo_pred.specs.declared.Query.{Query}
 use Rattle.topo_pred.specs.declared.Query.TheVariants as query
-use Rattle.im_matrix.specs.Patterns.{HasFaultAt}
-use Rattle.geosop_line.specs.Arguments.{value_of}
+use Rattle.im_matrix.specs.Patterns.{HasFaultAt, pattern_text}
+use Rattle.geosop_line.specs.Arguments.{Value, value_of}
 use Rattle.geosop_line.specs.CommandLine.{Fails, IsFirst, rank}
 use Rattle.geosop_line.specs.Figures.{AreBadSources, AreFigures, AreFiguresOf, AreMade, ComeFromSample, ComeFromSources, IsBadSample, IsFiguresFault}
 use Rattle.geosop_line.specs.Numbers.{IsNumber}
-use Rattle.geosop_line.specs.Operations.{Asks, HasOperation, IsBadArgument, IsBadOperation, IsBadPattern, IsQueryFault, operation_word}
-use Rattle.geosop_line.specs.Settings.{AreBadThreads, IsBadRule, IsBadScale, IsRule, IsScale, IsThreads, IsRuleFault, IsScaleFault, IsThreadsFault}
+use Rattle.geosop_line.specs.Operations.{Asks, IsBadArgument, IsBadOperation, IsBadPattern, IsQueryFault, operation_word}
+use Rattle.geosop_line.specs.Settings.{IsRule, IsThreads, IsRuleFault, IsScaleFault, IsThreadsFault}
 use Rattle.geosop_line.specs.declared.config.Source.{Source}
 use Rattle.geosop_line.specs.declared.config.UsageFault.{UsageFault}
 use Rattle.geosop_line.specs.declared.config.UsageFault.TheVariants.{Line, Sample, Sources, Operation, Argument, BadMatch, RuleName, Threads, Scale}
@@ -22,6 +23,7 @@ use Rattle.geosop_line.specs.declared.figures.Figures.TheVariants.{OfSample, OfS
 use Rattle.geosop_line.specs.declared.operation.Operation.{Operation as OneOperation}
 use Rattle.geosop_line.specs.declared.operation.Operation.TheVariants as operation
 use Rattle.geosop_line.proofs.PatternFaults.{no_fault_in_pattern}
+use Rattle.geosop_line.proofs.Values.{value_is}
 use Rattle.geosop_line.proofs.Words.{same_operation}
 
 -- ---- the order of the faults
@@ -51,7 +53,7 @@ fault_by_rank Scale = refl
 -- ---- the figures
 
 -- figures from a sample have no fault
-pub sample_passes : (sample a b : Option (List ℕ)) (n : ℕ) (x y : Source) → ComeFromSample sample a b n x y
+pub sample_passes : (sample a b : Value) (n : ℕ) (x y : Source) → ComeFromSample sample a b n x y
     → ¬ IsBadSample sample a b × ¬ AreBadSources sample a b
 sample_passes sample a b n x y from = (
   λ bad.
@@ -64,7 +66,7 @@ sample_passes sample a b n x y from = (
 )
 
 -- figures from two sources have no fault
-pub sources_pass : (sample a b : Option (List ℕ)) (x y : Source) → ComeFromSources sample a b x y
+pub sources_pass : (sample a b : Value) (x y : Source) → ComeFromSources sample a b x y
     → ¬ IsBadSample sample a b × ¬ AreBadSources sample a b
 sources_pass sample a b x y from = (
   λ bad. none-some bad.value (sym from.no_sample ∙ bad.has_sample),
@@ -75,19 +77,20 @@ sources_pass sample a b x y from = (
 )
 
 -- figures that were found have no fault
-pub figures_pass : (sample a b : Option (List ℕ)) (figures : Figures) → AreFigures sample a b figures → ¬ IsBadSample sample a b × ¬ AreBadSources sample a b
+pub figures_pass : (sample a b : Value) (figures : Figures) → AreFigures sample a b figures
+    → ¬ IsBadSample sample a b × ¬ AreBadSources sample a b
 figures_pass sample a b (OfSample n) from = sample_passes sample a b n _ _ from
 figures_pass sample a b (OfSources x y) from = sources_pass sample a b _ _ from
 
 -- ---- the query
 
 -- an operation that isn't `relatePattern`
-other_operation : (op : Option (List ℕ)) (o : OneOperation) → op ≡ Some (operation_word o) → o ≢ operation.RelatePattern
+other_operation : (op : Value) (o : OneOperation) → op ≡ Some (operation_word o) → o ≢ operation.RelatePattern
     → ¬ (op ≡ Some (operation_word operation.RelatePattern))
 other_operation op o is other same = other (same_operation o operation.RelatePattern (same_Some _ _ (sym is ∙ same)))
 
 -- an operation without an argument that isn't `relatePattern` passes
-plain_passes : (op arg : Option (List ℕ)) (o : OneOperation) → op ≡ Some (operation_word o) → arg ≡ None → o ≢ operation.RelatePattern
+plain_passes : (op arg : Value) (o : OneOperation) → op ≡ Some (operation_word o) → arg ≡ None → o ≢ operation.RelatePattern
     → ¬ IsBadOperation op × ¬ IsBadArgument op arg × ((place : ℕ) → ¬ IsBadPattern op arg place)
 plain_passes op arg o is none other = (
   λ bad. bad o is,
@@ -96,19 +99,25 @@ plain_passes op arg o is none other = (
 )
 
 -- a query that is asked has no fault
-pub query_passes : (op arg : Option (List ℕ)) (q : Query) → Asks op arg q
+pub query_passes : (op arg : Value) (q : Query) → Asks op arg q
     → ¬ IsBadOperation op × ¬ IsBadArgument op arg × ((place : ℕ) → ¬ IsBadPattern op arg place)
 query_passes op arg query.Relate asks = plain_passes op arg operation.Relate asks.0 asks.1 (λ e. cc)
 query_passes op arg (query.Named name) asks = plain_passes op arg (operation.Named name) asks.0 asks.1 (λ e. cc)
 query_passes op arg (query.Match pattern) asks = (
   λ bad. bad operation.RelatePattern asks.0,
   λ bad. elim bad [ inl missing ↦ cc (asks.1, missing.1) | inr surplus ↦ surplus.0 asks.0 ],
-  λ place bad. no_fault_in_pattern pattern place (subst (λ t. HasFaultAt t place) (same_Some _ _ (sym bad.has_argument ∙ asks.1)) bad.wrong),
+  λ place bad.
+      let same : bad.text ≡ pattern_text pattern = same_Some _ _ (sym bad.has_argument ∙ asks.1) in
+      no_fault_in_pattern pattern place (subst (λ t. HasFaultAt t place) same bad.wrong),
 )
 
 -- ---- the first fault
 
-module _ (rows : List Row) where
+module _ (found : Found) where
+  -- the matches that were found
+  abbrev rows : List Row
+  rows = rows_of found
+
   -- no fault before a rank
   abbrev pub PassesBelow : ℕ → Type 0
   PassesBelow k = (other : UsageFault) → rank other < k → ¬ Fails [] rows other
@@ -127,31 +136,33 @@ module _ (rows : List Row) where
   passes_line = passes_more 0 (λ other lt. absurd (omega arith)) (λ place some. some refl)
 
   -- the figures are there
-  pub passes_figures : (sample a b : Option (List ℕ)) (figures : Figures) → sample ≡ value_of (codes "sample") rows → a ≡ value_of (codes "a") rows
-      → b ≡ value_of (codes "b") rows → AreFigures sample a b figures → PassesBelow 3
+  pub passes_figures : (sample a b : Value) (figures : Figures) → sample ≡ first_value found (codes "sample")
+      → a ≡ first_value found (codes "a") → b ≡ first_value found (codes "b") → AreFigures sample a b figures → PassesBelow 3
   passes_figures sample a b figures s_is a_is b_is from =
-      let pass = figures_pass _ _ _ figures (rw (s_is, a_is, b_is) at from) in
+      let pass = figures_pass _ _ _ figures (rw (value_is found _ s_is, value_is found _ a_is, value_is found _ b_is) at from) in
       passes_more 2 (passes_more 1 passes_line (λ place. pass.0)) (λ place. pass.1)
 
   -- the query is there
-  pub passes_query : PassesBelow 3 → (op arg : Option (List ℕ)) (q : Query) → op ≡ value_of (codes "op") rows → arg ≡ value_of (codes "arg") rows
-      → Asks op arg q → PassesBelow 6
+  pub passes_query : PassesBelow 3 → (op arg : Value) (q : Query) → op ≡ first_value found (codes "op")
+      → arg ≡ first_value found (codes "arg") → Asks op arg q → PassesBelow 6
   passes_query three op arg q op_is arg_is asks =
-      let pass = query_passes _ _ q (rw (op_is, arg_is) at asks) in
+      let pass = query_passes _ _ q (rw (value_is found _ op_is, value_is found _ arg_is) at asks) in
       passes_more 5 (passes_more 4 (passes_more 3 three (λ place. pass.0)) (λ place. pass.1)) pass.2
 
   -- the rule is there
-  pub passes_rule : PassesBelow 6 → (value : Option (List ℕ)) (rule : Rule) → value ≡ value_of (codes "rule") rows → IsRule value rule → PassesBelow 7
-  passes_rule six value rule is has = passes_more 6 six (λ place bad. bad rule (rw is at has))
+  pub passes_rule : PassesBelow 6 → (value : Value) (rule : Rule) → value ≡ first_value found (codes "rule") → IsRule value rule
+      → PassesBelow 7
+  passes_rule six value rule is has = passes_more 6 six (λ place bad. bad rule (rw (value_is found _ is) at has))
 
   -- the threads are there
-  pub passes_threads : PassesBelow 7 → (value : Option (List ℕ)) (threads : ℕ) → value ≡ value_of (codes "threads") rows → IsThreads value threads
+  pub passes_threads : PassesBelow 7 → (value : Value) (threads : ℕ) → value ≡ first_value found (codes "threads") → IsThreads value threads
       → PassesBelow 8
-  passes_threads seven value threads is has = passes_more 7 seven (λ place bad. bad threads (rw is at has))
+  passes_threads seven value threads is has = passes_more 7 seven (λ place bad. bad threads (rw (value_is found _ is) at has))
 
   -- a fault of the figures is the first
   figures_first_at : (fault : UsageFault)
-      → IsFiguresFault (value_of (codes "sample") rows) (value_of (codes "a") rows) (value_of (codes "b") rows) fault → IsFirst [] rows fault
+      → IsFiguresFault (value_of (codes "sample") rows) (value_of (codes "a") rows) (value_of (codes "b") rows) fault
+      → IsFirst [] rows fault
   figures_first_at Sample fails = record { fails = fails; first = passes_line }
   figures_first_at Sources fails = record {
     fails = fails;
@@ -159,9 +170,11 @@ module _ (rows : List Row) where
   }
   figures_first_at other fails = absurd fails
 
-  pub figures_first : (sample a b : Option (List ℕ)) (fault : UsageFault) → sample ≡ value_of (codes "sample") rows → a ≡ value_of (codes "a") rows
-      → b ≡ value_of (codes "b") rows → IsFiguresFault sample a b fault → IsFirst [] rows fault
-  figures_first sample a b fault s_is a_is b_is fails = figures_first_at fault (rw (s_is, a_is, b_is) at fails)
+  -- the same of values that are those of the matches
+  pub figures_first : (sample a b : Value) (fault : UsageFault) → sample ≡ first_value found (codes "sample")
+      → a ≡ first_value found (codes "a") → b ≡ first_value found (codes "b") → IsFiguresFault sample a b fault → IsFirst [] rows fault
+  figures_first sample a b fault s_is a_is b_is fails =
+      figures_first_at fault (rw (value_is found _ s_is, value_is found _ a_is, value_is found _ b_is) at fails)
 
   -- a fault of the query is the first where the figures are there
   query_first_at : PassesBelow 3 → (fault : UsageFault) → IsQueryFault (value_of (codes "op") rows) (value_of (codes "arg") rows) fault
@@ -178,28 +191,30 @@ module _ (rows : List Row) where
   }
   query_first_at three other fails = absurd fails
 
-  pub query_first : PassesBelow 3 → (op arg : Option (List ℕ)) (fault : UsageFault) → op ≡ value_of (codes "op") rows → arg ≡ value_of (codes "arg") rows
-      → IsQueryFault op arg fault → IsFirst [] rows fault
-  query_first three op arg fault op_is arg_is fails = query_first_at three fault (rw (op_is, arg_is) at fails)
+  -- the same of values that are those of the matches
+  pub query_first : PassesBelow 3 → (op arg : Value) (fault : UsageFault) → op ≡ first_value found (codes "op")
+      → arg ≡ first_value found (codes "arg") → IsQueryFault op arg fault → IsFirst [] rows fault
+  query_first three op arg fault op_is arg_is fails =
+      query_first_at three fault (rw (value_is found _ op_is, value_is found _ arg_is) at fails)
 
   -- a fault of the rule is the first where figures and query are there
-  pub rule_first : PassesBelow 6 → (value : Option (List ℕ)) (fault : UsageFault) → value ≡ value_of (codes "rule") rows → IsRuleFault value fault
-      → IsFirst [] rows fault
-  rule_first six value fault is fails = rw fails.0 (record { fails = rw is at fails.1; first = six })
+  pub rule_first : PassesBelow 6 → (value : Value) (fault : UsageFault) → value ≡ first_value found (codes "rule")
+      → IsRuleFault value fault → IsFirst [] rows fault
+  rule_first six value fault is fails = rw fails.0 (record { fails = rw (value_is found _ is) at fails.1; first = six })
 
   -- a fault of the threads is the first where all before it is there
-  pub threads_first : PassesBelow 7 → (value : Option (List ℕ)) (fault : UsageFault) → value ≡ value_of (codes "threads") rows → IsThreadsFault value fault
-      → IsFirst [] rows fault
-  threads_first seven value fault is fails = rw fails.0 (record { fails = rw is at fails.1; first = seven })
+  pub threads_first : PassesBelow 7 → (value : Value) (fault : UsageFault) → value ≡ first_value found (codes "threads")
+      → IsThreadsFault value fault → IsFirst [] rows fault
+  threads_first seven value fault is fails = rw fails.0 (record { fails = rw (value_is found _ is) at fails.1; first = seven })
 
   -- a fault of the scale is the first where all before it is there
-  pub scale_first : PassesBelow 8 → (value : Option (List ℕ)) (fault : UsageFault) → value ≡ value_of (codes "scale") rows → IsScaleFault value fault
-      → IsFirst [] rows fault
-  scale_first eight value fault is fails = rw fails.0 (record { fails = rw is at fails.1; first = eight })
+  pub scale_first : PassesBelow 8 → (value : Value) (fault : UsageFault) → value ≡ first_value found (codes "scale")
+      → IsScaleFault value fault → IsFirst [] rows fault
+  scale_first eight value fault is fails = rw fails.0 (record { fails = rw (value_is found _ is) at fails.1; first = eight })
 
 -- figures whose sources are made are those of the configuration
-pub figures_made : (sample a b : Option (List ℕ)) (figures : Figures) (x y : Source) (n : Option ℕ) → AreFigures sample a b figures → AreMade figures x y n
-    → AreFiguresOf sample a b n x y
+pub figures_made : (sample a b : Value) (figures : Figures) (x y : Source) (n : Option ℕ) → AreFigures sample a b figures
+    → AreMade figures x y n → AreFiguresOf sample a b n x y
 figures_made sample a b (OfSample k) x y n from made = rw made.2 (record {
   value = from.value;
   has_sample = from.has_sample;

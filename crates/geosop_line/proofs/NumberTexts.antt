@@ -15,8 +15,8 @@ small_value : (text : List ℕ) → all_ascii_digits text ≡ true → length te
 small_value text digits few = omega (arith, digits_value_short own text 4 digits few)
 
 -- a number that was read is that of the text, where it is within the limit
-pub number_read : (most : ℕ) (text : List ℕ) (n : ℕ) → ParsesUnsigned {E = ParseIntError} 32 10 text (Ok n) → get_or text 0 0 ≢ 43 → length text ≤ 4
-    → 1 ≤ n → n ≤ most → IsNumber most text n
+pub number_read : (most : ℕ) (text : List ℕ) (n : ℕ) → ParsesUnsigned {E = ParseIntError} 32 10 text (Ok n)
+    → get_or text 0 0 ≢ 43 → length text ≤ 4 → 1 ≤ n → n ≤ most → IsNumber most text n
 number_read most text n read plain few positive within =
     let it = parse_plain own {E = ParseIntError} 32 text (Ok n) read plain in record {
       some = it.0.1;
@@ -28,7 +28,7 @@ number_read most text n read plain few positive within =
     }
 
 -- where none was read the text has none
-pub number_unread : (most : ℕ) (text : List ℕ) (e : ParseIntError) → ParsesUnsigned {E = ParseIntError} 32 10 text (Err e) → get_or text 0 0 ≢ 43
-    → (n : ℕ) → ¬ IsNumber most text n
+pub number_unread : (most : ℕ) (text : List ℕ) (e : ParseIntError) → ParsesUnsigned {E = ParseIntError} 32 10 text (Err e)
+    → get_or text 0 0 ≢ 43 → (n : ℕ) → ¬ IsNumber most text n
 number_unread most text e read plain n is =
     parse_plain own {E = ParseIntError} 32 text (Err e) read plain (is.digits, is.some, small_value text is.digits is.few)

@@ -1,5 +1,5 @@
 -- A command line has one configuration or one first fault, and not both.
-use Rattle.std.proofs.Common.{◌≡◌, ◌≢◌, ◌∙◌, ◌<◌, ◌≤◌, ◌↔◌, ◌⊎◌, inl, inr, refl, ap, sym, subst, arith, true, false, true≢false, IsTrue, Bool, ℕ, ◌+◌, List, [], Option, Some, None, slice_index_or}
+use Rattle.std.proofs.Common.{◌≡◌, ◌∙◌, ◌≤◌, ◌↔◌, inl, inr, refl, ap, sym, subst, arith, true, false, IsTrue, Bool, ℕ, ◌+◌, List, [], Option, Some, None, slice_index_or}
 use mathlib.Core.HLevel.{is_prop→PathP}
 use Rattle.std.proofs.Math.Bridge.{le_prop}
 use Rattle.std.proofs.lemmas.Bool.{cases_lt}
@@ -11,11 +11,11 @@ use Rattle.wkt_text.specs.declared.scale.Scale.{Scale as ScaleOfNumbers}
 use Rattle.im_matrix.specs.Patterns.{HasFaultAt}
 use Rattle.topo_pred.specs.declared.Query.{Query}
 use Rattle.topo_pred.specs.declared.Query.TheVariants.{Relate, Named, Match}
-use Rattle.geosop_line.specs.Arguments.{value_of}
+use Rattle.geosop_line.specs.Arguments.{Value}
 use Rattle.geosop_line.specs.CommandLine.{Fails, IsConfig, IsFirst, rank}
 use Rattle.geosop_line.specs.Figures.{AreBadSources, AreFiguresOf, IsBadSample, source_of}
 use Rattle.geosop_line.specs.Numbers.{IsNumber}
-use Rattle.geosop_line.specs.Operations.{Asks, IsBadPattern, operation_word}
+use Rattle.geosop_line.specs.Operations.{Asks, operation_word}
 use Rattle.geosop_line.specs.Settings.{IsRule, IsScale, IsThreads}
 use Rattle.geosop_line.specs.declared.config.Config.{Config}
 use Rattle.geosop_line.specs.declared.config.Source.{Source}
@@ -30,7 +30,7 @@ use Rattle.geosop_line.proofs.Words.{same_operation, same_pattern, same_rule}
 -- ---- one configuration
 
 -- the figures of given values are the same
-one_figures : (sample a b : Option (List ℕ)) (n m : Option ℕ) (x y u v : Source) → AreFiguresOf sample a b n x y → AreFiguresOf sample a b m u v
+one_figures : (sample a b : Value) (n m : Option ℕ) (x y u v : Source) → AreFiguresOf sample a b n x y → AreFiguresOf sample a b m u v
     → (n ≡ m) × (x ≡ u) × (y ≡ v)
 one_figures sample a b None None x y u v f g = (
   refl,
@@ -54,31 +54,31 @@ operation_of (Named name) = operation.Named name
 operation_of (Match pattern) = operation.RelatePattern
 
 -- a query is asked by its operation's word
-asked_by : (op arg : Option (List ℕ)) (q : Query) → Asks op arg q → op ≡ Some (operation_word (operation_of q))
+asked_by : (op arg : Value) (q : Query) → Asks op arg q → op ≡ Some (operation_word (operation_of q))
 asked_by op arg Relate asks = asks.0
 asked_by op arg (Named name) asks = asks.0
 asked_by op arg (Match pattern) asks = asks.0
 
 -- two queries of one operation are one
-one_by_operation : (op arg : Option (List ℕ)) (p q : Query) → operation_of p ≡ operation_of q → Asks op arg p → Asks op arg q → p ≡ q
+one_by_operation : (op arg : Value) (p q : Query) → operation_of p ≡ operation_of q → Asks op arg p → Asks op arg q → p ≡ q
 one_by_operation op arg Relate Relate same f g = refl
 one_by_operation op arg (Named name) (Named other) same f g = cc
 one_by_operation op arg (Match p) (Match q) same f g = ap Match (same_pattern p q (same_Some _ _ (sym f.1 ∙ g.1)))
 one_by_operation op arg p q same f g = cc
 
 -- the query of given values is the same
-one_query : (op arg : Option (List ℕ)) (p q : Query) → Asks op arg p → Asks op arg q → p ≡ q
+one_query : (op arg : Value) (p q : Query) → Asks op arg p → Asks op arg q → p ≡ q
 one_query op arg p q f g =
     let same = same_operation (operation_of p) (operation_of q) (same_Some _ _ (sym (asked_by op arg p f) ∙ asked_by op arg q g)) in
     one_by_operation op arg p q same f g
 
 -- the rule of a value is the same
-one_rule : (value : Option (List ℕ)) (r s : Rule) → IsRule value r → IsRule value s → r ≡ s
+one_rule : (value : Value) (r s : Rule) → IsRule value r → IsRule value s → r ≡ s
 one_rule None r s f g = f ∙ sym g
 one_rule (Some word) r s f g = same_rule r s (sym f ∙ g)
 
 -- the threads of a value are the same
-one_threads : (value : Option (List ℕ)) (n m : ℕ) → IsThreads value n → IsThreads value m → n ≡ m
+one_threads : (value : Value) (n m : ℕ) → IsThreads value n → IsThreads value m → n ≡ m
 one_threads None n m f g = f ∙ sym g
 one_threads (Some text) n m f g = f.value ∙ sym g.value
 
@@ -87,7 +87,7 @@ same_scale : (s t : ScaleOfNumbers) → s.digits ≡ t.digits → s ≡ t
 same_scale s t same = λ i. record { digits = same i; within = is_prop→PathP (λ j. same j ≤ 0) (λ j x y. le_prop x y) s.within t.within i }
 
 -- the scale of a value is the same
-one_scale : (value : Option (List ℕ)) (s t : ScaleOfNumbers) → IsScale value s → IsScale value t → s ≡ t
+one_scale : (value : Value) (s t : ScaleOfNumbers) → IsScale value s → IsScale value t → s ≡ t
 one_scale None s t f g = same_scale s t (f ∙ sym g)
 one_scale (Some text) s t f g =
     let same : 48 + s.digits ≡ 48 + t.digits = ap (λ xs. slice_index_or xs 0 0) (sym f.digit ∙ g.digit) in
@@ -125,7 +125,8 @@ one_config rows c d f g =
 -- ---- one first fault
 
 -- two bad matches are at one place
-same_place : (refused : Kinds) (rows : List Row) (f g : UsageFault) → rank f ≡ rank g → Fails refused rows f → Fails refused rows g → place_of f ≡ place_of g
+same_place : (refused : Kinds) (rows : List Row) (f g : UsageFault) → rank f ≡ rank g → Fails refused rows f → Fails refused rows g
+    → place_of f ≡ place_of g
 same_place refused rows (BadMatch p) (BadMatch q) same f g =
     one_fault g.text p q (subst (λ t. HasFaultAt t p) (same_Some _ _ (sym f.has_argument ∙ g.has_argument)) f.wrong) g.wrong
 same_place refused rows (BadMatch p) g same f h = absurd (omega arith)
@@ -147,13 +148,14 @@ one_first refused rows f g is_f is_g = elim (cases_lt (rank f) (rank g)) [
 -- ---- not both
 
 -- figures of a configuration have no fault
-figures_pass_of : (sample a b : Option (List ℕ)) (n : Option ℕ) (x y : Source) → AreFiguresOf sample a b n x y
+figures_pass_of : (sample a b : Value) (n : Option ℕ) (x y : Source) → AreFiguresOf sample a b n x y
     → ¬ IsBadSample sample a b × ¬ AreBadSources sample a b
 figures_pass_of sample a b None x y from = sources_pass sample a b x y from
 figures_pass_of sample a b (Some n) x y from = sample_passes sample a b n x y from
 
 -- where there is a configuration there is no fault
-pub config_passes : (refused : Kinds) (rows : List Row) (c : Config) → refused ≡ [] → IsConfig rows c → (f : UsageFault) → ¬ Fails refused rows f
+pub config_passes : (refused : Kinds) (rows : List Row) (c : Config) → refused ≡ [] → IsConfig rows c → (f : UsageFault)
+    → ¬ Fails refused rows f
 config_passes refused rows c none is Line fails = fails none
 config_passes refused rows c none is Sample fails = (figures_pass_of _ _ _ c.sample c.a c.b is.figures).0 fails
 config_passes refused rows c none is Sources fails = (figures_pass_of _ _ _ c.sample c.a c.b is.figures).1 fails

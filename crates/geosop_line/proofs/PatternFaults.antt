@@ -1,5 +1,5 @@
 -- Where a text is no pattern.
-use Rattle.std.proofs.Common.{◌≡◌, ◌∙◌, ◌<◌, ◌≤◌, ◌⊎◌, inl, inr, refl, ap, sym, arith, true, false, true≢false, zero, suc, ℕ, List, [], ◌∷◌, Option, Some, length, map}
+use Rattle.std.proofs.Common.{◌≡◌, ◌∙◌, ◌<◌, inl, inr, refl, sym, arith, true, true≢false, zero, suc, ℕ, List, [], ◌∷◌, Some, length, map}
 use Rattle.std.specs.Prelude.{slice_get}
 use Rattle.std.proofs.lemmas.Bool.{cases_lt}
 use Rattle.im_matrix.specs.declared.patterns.Mark.{Mark}
@@ -38,7 +38,10 @@ no_fault_in_pattern p place fault = elim fault.wrong_here [
 not_before : (text : List ℕ) (place other : ℕ) → HasFaultAt text place → HasFaultAt text other → ¬ (place < other)
 not_before text place other fault after before = elim fault.wrong_here [
   | inl wrong ↦ true≢false (sym (after.right_before place before) ∙ wrong.1)
-  | inr long ↦ elim after.wrong_here [ inl wrong ↦ absurd (omega (arith, long.0, wrong.0)) | inr far ↦ absurd (omega (arith, long.0, far.0)) ]
+  | inr long ↦ elim after.wrong_here [
+    | inl wrong ↦ absurd (omega (arith, long.0, wrong.0))
+    | inr far ↦ absurd (omega (arith, long.0, far.0))
+  ]
 ]
 
 -- a text has one fault at most

@@ -97,7 +97,8 @@ same_row r s i b e =
 -- two patterns of one text are one
 pub same_pattern : (p q : Pattern) → pattern_text p ≡ pattern_text q → p ≡ q
 same_pattern p q same =
-    let at : (i : ℕ) → slice_index_or (pattern_text p) i 0 ≡ slice_index_or (pattern_text q) i 0 = λ i. ap (λ t. slice_index_or t i 0) same in
+    let at : (i : ℕ) → slice_index_or (pattern_text p) i 0 ≡ slice_index_or (pattern_text q) i 0 =
+    λ i. ap (λ t. slice_index_or t i 0) same in
     let interior = same_row p.interior q.interior (at 0) (at 1) (at 2) in
     let boundary = same_row p.boundary q.boundary (at 3) (at 4) (at 5) in
     let exterior = same_row p.exterior q.exterior (at 6) (at 7) (at 8) in

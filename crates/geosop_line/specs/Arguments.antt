@@ -58,8 +58,12 @@ matches words = matches_of command words
 unfoldable pub refusals : List (List ℕ) → Kinds
 refusals words = fault_of command words
 
--- The value of an option or of a positional, where the matches have it.
-unfoldable pub value_of : List ℕ → List Row → Option (List ℕ)
+-- The value of an option or of a positional, where there is one.
+abbrev pub Value : Type 0
+Value = Option (List ℕ)
+
+-- The value that the matches have by an id.
+unfoldable pub value_of : List ℕ → List Row → Value
 value_of id rows = first_of id rows
 
 -- What an error of clap's is told as: want of memory as such, and any other as a fault of the line.

@@ -14,7 +14,8 @@ use Rattle.geosop_line.specs.declared.config.UsageFault.TheVariants.{Line, Sampl
 
 -- What the matches say of each part of the configuration.
 pub record IsConfig (rows : List Row) (config : Config) : Type 0 where
-  pub figures : AreFiguresOf (value_of (codes "sample") rows) (value_of (codes "a") rows) (value_of (codes "b") rows) config.sample config.a config.b
+  pub figures :
+      AreFiguresOf (value_of (codes "sample") rows) (value_of (codes "a") rows) (value_of (codes "b") rows) config.sample config.a config.b
   pub query : Asks (value_of (codes "op") rows) (value_of (codes "arg") rows) config.query
   pub rule : IsRule (value_of (codes "rule") rows) config.rule
   pub threads : IsThreads (value_of (codes "threads") rows) config.threads

@@ -1,5 +1,5 @@
 -- Where the figures come from: two sources, or the sample generator.
-use Rattle.std.specs.Prelude.{◌≡◌, ◌⊎◌, ⊤, ℕ, Bool, true, false, List, [], Option, Some, None, IsNone, IsSome, bytes_eq, codes}
+use Rattle.std.specs.Prelude.{◌≡◌, ◌⊎◌, ℕ, Bool, true, false, List, [], Option, Some, None, IsNone, IsSome, bytes_eq, codes}
 use Rattle.wkt_text.specs.Words.{is_text}
 use Rattle.geosop_line.specs.declared.config.Source.{Source}
 use Rattle.geosop_line.specs.declared.config.Source.TheVariants.{Text, File, Stdin}
@@ -7,6 +7,7 @@ use Rattle.geosop_line.specs.declared.config.UsageFault.{UsageFault}
 use Rattle.geosop_line.specs.declared.config.UsageFault.TheVariants.{Sample, Sources}
 use Rattle.geosop_line.specs.declared.figures.Figures.{Figures}
 use Rattle.geosop_line.specs.declared.figures.Figures.TheVariants.{OfSample, OfSources}
+use Rattle.geosop_line.specs.Arguments.{Value}
 use Rattle.geosop_line.specs.Numbers.{IsNumber}
 
 -- Whether a value is standard input.
@@ -24,7 +25,7 @@ abbrev pub source_of : List ℕ → Source
 source_of value = source_by (is_stdin value) (is_text value) value
 
 -- There is no sample, and the sources of A and B are those of the values of `-a` and `-b`, of which one at most is standard input.
-pub record ComeFromSources (sample a b : Option (List ℕ)) (source_a source_b : Source) : Type 0 where
+pub record ComeFromSources (sample a b : Value) (source_a source_b : Source) : Type 0 where
   pub value_a : List ℕ
   pub value_b : List ℕ
   pub no_sample : sample ≡ None
@@ -35,7 +36,7 @@ pub record ComeFromSources (sample a b : Option (List ℕ)) (source_a source_b :
   pub b_is : source_b ≡ source_of value_b
 
 -- The value of `--sample` is the number n, from 1 to 200, there is no `-a` and no `-b`, and both sources are texts of no bytes.
-pub record ComeFromSample (sample a b : Option (List ℕ)) (n : ℕ) (source_a source_b : Source) : Type 0 where
+pub record ComeFromSample (sample a b : Value) (n : ℕ) (source_a source_b : Source) : Type 0 where
   pub value : List ℕ
   pub has_sample : sample ≡ Some value
   pub number : IsNumber 200 value n
@@ -45,29 +46,29 @@ pub record ComeFromSample (sample a b : Option (List ℕ)) (n : ℕ) (source_a s
   pub b_is : source_b ≡ Text []
 
 -- The sample's number, if any, and the two sources, by the values of `--sample`, `-a` and `-b`.
-abbrev pub AreFiguresOf : Option (List ℕ) → Option (List ℕ) → Option (List ℕ) → Option ℕ → Source → Source → Type 0
+abbrev pub AreFiguresOf : Value → Value → Value → Option ℕ → Source → Source → Type 0
 AreFiguresOf sample a b None source_a source_b = ComeFromSources sample a b source_a source_b
 AreFiguresOf sample a b (Some n) source_a source_b = ComeFromSample sample a b n source_a source_b
 
 -- There is a sample, and its value isn't a number from 1 to 200, or `-a` or `-b` is there too.
-pub record IsBadSample (sample a b : Option (List ℕ)) : Type 0 where
+pub record IsBadSample (sample a b : Value) : Type 0 where
   pub value : List ℕ
   pub has_sample : sample ≡ Some value
   pub bad : ((n : ℕ) → ¬ IsNumber 200 value n) ⊎ (IsSome a ⊎ IsSome b)
 
 -- There is no sample, and `-a` or `-b` is missing or both are standard input.
-pub record AreBadSources (sample a b : Option (List ℕ)) : Type 0 where
+pub record AreBadSources (sample a b : Value) : Type 0 where
   pub no_sample : sample ≡ None
   pub bad : (IsNone a ⊎ IsNone b) ⊎ ((a ≡ Some (codes "stdin")) × (b ≡ Some (codes "stdin")))
 
 -- The first fault of the values of `--sample`, `-a` and `-b`.
-abbrev pub IsFiguresFault : Option (List ℕ) → Option (List ℕ) → Option (List ℕ) → UsageFault → Type 0
+abbrev pub IsFiguresFault : Value → Value → Value → UsageFault → Type 0
 IsFiguresFault sample a b Sample = IsBadSample sample a b
 IsFiguresFault sample a b Sources = AreBadSources sample a b
 IsFiguresFault sample a b fault = ⊥
 
 -- What the values of `--sample`, `-a` and `-b` say of the figures, before their sources are made.
-abbrev pub AreFigures : Option (List ℕ) → Option (List ℕ) → Option (List ℕ) → Figures → Type 0
+abbrev pub AreFigures : Value → Value → Value → Figures → Type 0
 AreFigures sample a b (OfSample n) = ComeFromSample sample a b n (Text []) (Text [])
 AreFigures sample a b (OfSources value_a value_b) = ComeFromSources sample a b (source_of value_a.now) (source_of value_b.now)
 

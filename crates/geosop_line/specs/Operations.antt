@@ -1,10 +1,11 @@
 -- The words of the operations, which are told apart by case too.
-use Rattle.std.specs.Prelude.{◌≡◌, ◌⊎◌, ℕ, List, Option, Some, None, IsSome, codes}
+use Rattle.std.specs.Prelude.{◌≡◌, ◌⊎◌, ℕ, List, Some, None, IsSome, codes}
 use Rattle.im_matrix.specs.declared.names.Name.{Name}
 use Rattle.im_matrix.specs.declared.names.Name.TheVariants.{Intersects, Disjoint, Contains, Within, Covers, CoveredBy, Touches, Crosses, Overlaps, Equals, ContainsProperly}
 use Rattle.im_matrix.specs.Patterns.{HasFaultAt, pattern_text}
 use Rattle.topo_pred.specs.declared.Query.{Query}
 use Rattle.topo_pred.specs.declared.Query.TheVariants as query
+use Rattle.geosop_line.specs.Arguments.{Value}
 use Rattle.geosop_line.specs.declared.config.UsageFault.{UsageFault}
 use Rattle.geosop_line.specs.declared.config.UsageFault.TheVariants as fault
 use Rattle.geosop_line.specs.declared.operation.Operation.{Operation}
@@ -31,35 +32,35 @@ operation_word RelatePattern = codes "relatePattern"
 operation_word (Named name) = name_word name
 
 -- The operation and the argument ask this query: the matrix, a named predicate, or a match with the argument's pattern.
-abbrev pub Asks : Option (List ℕ) → Option (List ℕ) → Query → Type 0
+abbrev pub Asks : Value → Value → Query → Type 0
 Asks operation argument query.Relate = (operation ≡ Some (operation_word Relate)) × (argument ≡ None)
 Asks operation argument (query.Named name) = (operation ≡ Some (operation_word (Named name))) × (argument ≡ None)
 Asks operation argument (query.Match pattern) = (operation ≡ Some (operation_word RelatePattern)) × (argument ≡ Some (pattern_text pattern))
 
 -- The operation is missing or isn't one of those above.
-abbrev pub IsBadOperation : Option (List ℕ) → Type 0
+abbrev pub IsBadOperation : Value → Type 0
 IsBadOperation operation = (one : Operation) → ¬ (operation ≡ Some (operation_word one))
 
 -- The operation is `relatePattern` and the argument is missing, or it is another one and the argument is there.
-abbrev pub IsBadArgument : Option (List ℕ) → Option (List ℕ) → Type 0
+abbrev pub IsBadArgument : Value → Value → Type 0
 IsBadArgument operation argument =
     ((operation ≡ Some (operation_word RelatePattern)) × (argument ≡ None))
     ⊎ (¬ (operation ≡ Some (operation_word RelatePattern)) × IsSome argument)
 
 -- The argument of `relatePattern` is no pattern, and first goes wrong at this place.
-pub record IsBadPattern (operation argument : Option (List ℕ)) (place : ℕ) : Type 0 where
+pub record IsBadPattern (operation argument : Value) (place : ℕ) : Type 0 where
   pub text : List ℕ
   pub asks : operation ≡ Some (operation_word RelatePattern)
   pub has_argument : argument ≡ Some text
   pub wrong : HasFaultAt text place
 
 -- The operation is one of those above.
-pub record HasOperation (operation : Option (List ℕ)) : Type 0 where
+pub record HasOperation (operation : Value) : Type 0 where
   pub one : Operation
   pub is : operation ≡ Some (operation_word one)
 
 -- The first fault of the operation and the argument.
-abbrev pub IsQueryFault : Option (List ℕ) → Option (List ℕ) → UsageFault → Type 0
+abbrev pub IsQueryFault : Value → Value → UsageFault → Type 0
 IsQueryFault operation argument fault.Operation = IsBadOperation operation
 IsQueryFault operation argument fault.Argument = HasOperation operation × IsBadArgument operation argument
 IsQueryFault operation argument (fault.BadMatch place) = IsBadPattern operation argument place

@@ -1,6 +1,5 @@
 //! The words as clap reads them.
-ghost use Rattle.std.specs.Prelude.{◌≡◌, ◌≢◌, [], IfOk, IfErr, map, option_map, string_bytes, false};
-ghost use Rattle.std.specs.List.{All};
+ghost use Rattle.std.specs.Prelude.{◌≡◌, ◌≢◌, [], IfOk, IfErr, map, string_bytes};
 ghost use Rattle.clap.specs.Matches.{found_of};
 ghost use Rattle.clap.specs.Walk.{rows_of, rule_of};
 ghost use Rattle.clap.specs.Simple.{app_of};
@@ -14,7 +13,6 @@ use std::alloc::{AllocError, Global};
 /// An option with one value, by its letter.
 fn letter_option<'a>(alloc: Global, id: &'a str, letter: char) -> Arg<'a>
     ensures rule { rule_of result ≡ letter_option_so id.entry.now letter }
-    ensures local { result.global ≡ false }
 {
     Arg::new(alloc, id).short(letter)
 }
@@ -22,7 +20,6 @@ fn letter_option<'a>(alloc: Global, id: &'a str, letter: char) -> Arg<'a>
 /// An option with one value, by its name.
 fn named_option<'a>(alloc: Global, id: &'a str) -> Arg<'a>
     ensures rule { rule_of result ≡ named_option_so id.entry.now }
-    ensures local { result.global ≡ false }
 {
     Arg::new(alloc, id).long(id)
 }
@@ -30,7 +27,6 @@ fn named_option<'a>(alloc: Global, id: &'a str) -> Arg<'a>
 /// A flag, by its name.
 fn flag<'a>(alloc: Global, id: &'a str) -> Arg<'a>
     ensures rule { rule_of result ≡ flag_so id.entry.now }
-    ensures local { result.global ≡ false }
 {
     Arg::new(alloc, id).long(id).action(ArgAction::SetTrue)
 }
@@ -38,10 +34,8 @@ fn flag<'a>(alloc: Global, id: &'a str) -> Arg<'a>
 /// The program's arguments.
 fn arguments<'a>(alloc: Global) -> Result<Vec<Arg<'a>>, AllocError>
     ensures rules { IfOk result (λ v. map rule_of v.items ≡ arguments_so) }
-    ensures local { IfOk result (λ v. All (λ a. a.global ≡ false) v.items) }
 {
-    let arguments = vec![
-        in alloc;
+    let arguments = vec![in alloc;
         letter_option(alloc, "a", 'a'),
         letter_option(alloc, "b", 'b'),
         flag(alloc, "quiet").short('q'),
@@ -85,7 +79,10 @@ impl From<clap::Error> for LineFault {
 ///
 /// # Errors
 /// A line fault where clap refuses the words, or want of memory.
-pub(crate) fn matches_in<'a>(alloc: Global, words: &'a [String]) -> Result<ArgMatches<'a>, LineFault>
+pub(crate) fn matches_in<'a>(
+    alloc: Global,
+    words: &'a [String],
+) -> Result<ArgMatches<'a>, LineFault>
     ensures matches { IfOk result (λ m. rows_of (found_of m) ≡ matches (map string_bytes words.entry.now)) }
     ensures taken { IfOk result (λ m. refusals (map string_bytes words.entry.now) ≡ []) }
     ensures refused { IfErr result (IsToldOf (refusals (map string_bytes words.entry.now))) }

@@ -1,5 +1,6 @@
 //! Where the two figures come from.
-ghost use Rattle.std.specs.Prelude.{◌≡◌, [], MatchResult, IfOk, option_map};
+ghost use Rattle.std.specs.Prelude.{◌≡◌, [], MatchResult, IfOk};
+ghost use Rattle.std.specs.Option.{option_copied};
 ghost use Rattle.geosop_line.specs.Figures.{AreFigures, AreMade, IsFiguresFault, is_stdin as is_stdin_so, source_of as source_of_value};
 
 use crate::config::{Source, UsageFault};
@@ -49,8 +50,8 @@ pub(crate) fn figures_of<'a>(
     b: Option<&'a str>,
 ) -> Result<Figures<'a>, UsageFault>
     ensures figures { MatchResult result
-        (AreFigures (option_map (λ s. s.now) sample.entry) (option_map (λ s. s.now) a.entry) (option_map (λ s. s.now) b.entry))
-        (IsFiguresFault (option_map (λ s. s.now) sample.entry) (option_map (λ s. s.now) a.entry) (option_map (λ s. s.now) b.entry)) }
+        (AreFigures (option_copied sample.entry) (option_copied a.entry) (option_copied b.entry))
+        (IsFiguresFault (option_copied sample.entry) (option_copied a.entry) (option_copied b.entry)) }
 {
     match (sample, a, b) {
         (Some(text), None, None) => {

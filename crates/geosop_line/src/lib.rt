@@ -8,6 +8,8 @@ mod line;
 mod number;
 mod operation;
 mod settings;
+#[cfg(test)]
+mod tests;
 
 pub use config::{Config, LineFault, Source, UsageFault};
 pub use line::read_line;

@@ -1,5 +1,6 @@
 //! What is asked of each pair.
-ghost use Rattle.std.specs.Prelude.{◌≡◌, Some, MatchOption, MatchResult, option_map};
+ghost use Rattle.std.specs.Prelude.{◌≡◌, Some, MatchOption, MatchResult};
+ghost use Rattle.std.specs.Option.{option_copied};
 ghost use Rattle.geosop_line.specs.Operations.{operation_word, Asks, IsQueryFault};
 ghost use Rattle.geosop_line.specs.declared.operation.Operation.{Operation};
 
@@ -43,8 +44,8 @@ fn operation_of(word: &str) -> Option<Operation>
 /// The query of an operation with this argument.
 fn asked(operation: Operation, argument: Option<&str>) -> Result<Query, UsageFault>
     ensures query { MatchResult result
-        (Asks (Some (operation_word operation)) (option_map (λ s. s.now) argument.entry))
-        (IsQueryFault (Some (operation_word operation)) (option_map (λ s. s.now) argument.entry)) }
+        (Asks (Some (operation_word operation)) (option_copied argument.entry))
+        (IsQueryFault (Some (operation_word operation)) (option_copied argument.entry)) }
 {
     match (operation, argument) {
         (Operation::Relate, None) => Ok(Query::Relate),
@@ -60,8 +61,8 @@ fn asked(operation: Operation, argument: Option<&str>) -> Result<Query, UsageFau
 /// The query of these values of the two positionals.
 pub(crate) fn query_of(operation: Option<&str>, argument: Option<&str>) -> Result<Query, UsageFault>
     ensures query { MatchResult result
-        (Asks (option_map (λ s. s.now) operation.entry) (option_map (λ s. s.now) argument.entry))
-        (IsQueryFault (option_map (λ s. s.now) operation.entry) (option_map (λ s. s.now) argument.entry)) }
+        (Asks (option_copied operation.entry) (option_copied argument.entry))
+        (IsQueryFault (option_copied operation.entry) (option_copied argument.entry)) }
 {
     match operation.and_then(operation_of) {
         Some(operation) => asked(operation, argument),

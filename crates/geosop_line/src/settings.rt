@@ -1,4 +1,5 @@
-ghost use Rattle.std.specs.Prelude.{◌≡◌, MatchResult, option_map};
+ghost use Rattle.std.specs.Prelude.{◌≡◌, MatchResult};
+ghost use Rattle.std.specs.Option.{option_copied};
 ghost use Rattle.geosop_line.specs.Settings.{IsRule, IsThreads, IsScale, IsRuleFault, IsThreadsFault, IsScaleFault};
 
 use crate::config::UsageFault;
@@ -11,7 +12,7 @@ const MOST_THREADS: u32 = 64;
 
 /// The boundary node rule of this value of `--rule`.
 pub(crate) fn rule_of(value: Option<&str>) -> Result<Rule, UsageFault>
-    ensures rule { MatchResult result (IsRule (option_map (λ s. s.now) value.entry)) (IsRuleFault (option_map (λ s. s.now) value.entry)) }
+    ensures rule { MatchResult result (IsRule (option_copied value.entry)) (IsRuleFault (option_copied value.entry)) }
 {
     match value {
         None | Some("mod2") => Ok(Rule::Mod2),
@@ -24,7 +25,7 @@ pub(crate) fn rule_of(value: Option<&str>) -> Result<Rule, UsageFault>
 
 /// The number of threads of this value of `--threads`.
 pub(crate) fn threads_of(value: Option<&str>) -> Result<u32, UsageFault>
-    ensures threads { MatchResult result (IsThreads (option_map (λ s. s.now) value.entry)) (IsThreadsFault (option_map (λ s. s.now) value.entry)) }
+    ensures threads { MatchResult result (IsThreads (option_copied value.entry)) (IsThreadsFault (option_copied value.entry)) }
 {
     match value {
         None => Ok(1),
@@ -34,7 +35,7 @@ pub(crate) fn threads_of(value: Option<&str>) -> Result<u32, UsageFault>
 
 /// The scale of this value of `--scale`.
 pub(crate) fn scale_of(value: Option<&str>) -> Result<Scale, UsageFault>
-    ensures scale { MatchResult result (IsScale (option_map (λ s. s.now) value.entry)) (IsScaleFault (option_map (λ s. s.now) value.entry)) }
+    ensures scale { MatchResult result (IsScale (option_copied value.entry)) (IsScaleFault (option_copied value.entry)) }
 {
     let digits = match value {
         None => 0,

@@ -1,5 +1,4 @@
 -- What clap's contract says of the command is what its matches and its refusals are.
-use Rattle.std.proofs.Common.{◌∙◌}
 use Rattle.std.proofs.lemmas.Result.{err_from_is_err_and}
 use Rattle.geosop_line.proofs.Commands.{none_refused, rows_are_matches, told_rightly}
 use Rattle.geosop_line.proofs.arguments.matches_in.Goals as goal

@@ -21,4 +21,4 @@ same_word (Some x) word test is = (
 pub returns : goal.returns
 returns c =
     let value = value_is (found_of c.args.matches.now) c.args.id.now c.get_str.ensures in
-    record { set = rw (← value) (same_word c.get_str.result _ _ c.eq.ensures); }
+    record { set = rw (← value) (same_word c.get_str.result _ _ c.eq.ensures) }

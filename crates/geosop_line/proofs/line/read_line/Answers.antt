@@ -1,7 +1,5 @@
 -- What comes is what there is.
-use Rattle.clap.specs.Matches.{found_of}
-use Rattle.clap.specs.Walk.{rows_of}
-use Rattle.geosop_line.proofs.Answering.{answers_line, config_comes, fault_comes, told_is_first}
+use Rattle.geosop_line.proofs.Answering.{answers_line, config_comes, fault_comes}
 use Rattle.geosop_line.proofs.line.read_line.Goals as goal
 
 pub returns-clause-config_comes : goal.returns-clause-config_comes

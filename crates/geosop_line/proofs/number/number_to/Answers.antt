@@ -10,9 +10,12 @@ plain_of text test is = true≢false (sym (test ∙ ap (λ b. b == 43) is))
 pub returns-in_default : goal.returns-in_default
 returns-in_default c =
     let plain = plain_of c.args.text.now (c.if-starts_with.ensures.byte (lit< tt) (lit< tt) (λ w o h. h)) in
-    record { number = number_unread _ c.args.text.now c.in_default.field-0 c.in_default.ensures.value.0 plain; }
+    record { number = number_unread _ c.args.text.now c.in_default.field-0 c.in_default.ensures.value.0 plain }
 
 pub returns : goal.returns
 returns c =
     let plain = plain_of c.args.text.now (c.if-starts_with.ensures.byte (lit< tt) (lit< tt) (λ w o h. h)) in
-    record { number = number_read _ c.args.text.now c.in-Ok.number c.in-Ok.ensures.value.0 plain c.if-text-gt4.false c.if-number-lt1.false c.if-number-most.false; }
+    record {
+      number = number_read _ c.args.text.now c.in-Ok.number c.in-Ok.ensures.value.0 plain c.if-text-gt4.false c.if-number-lt1.false
+          c.if-number-most.false;
+    }
