@@ -63,7 +63,8 @@ module _ (E : Build → Type 0) where
   by_fault None e f h = taken e f h
   by_fault (Some k) e f h = stopped e f
 
-  by_value : {b : Build} {n : ℕ} {t : Token} {role : Role} {rule : TokenRule} {r : List Move} {s : List Slot} (m : Numeral) (g : ℤ → Build) →
+  by_value : {b : Build} {n : ℕ} {t : Token} {role : Role} {rule : TokenRule} {r : List Move} {s : List Slot}
+      (m : Numeral) (g : ℤ → Build) →
       act b role t ≡ (numeral_value m >>= λ z. Ok (g z)) → fault_under rule n t ≡ numeral_fault m →
       Agrees E (g (coordinate_of m)) (begun_with rule n) r s → Agrees E b n (move t role ∷ r) (slot t rule ∷ s)
   by_value Long g e f h = stopped e f
@@ -72,7 +73,8 @@ module _ (E : Build → Type 0) where
   by_value Wide g e f h = stopped e f
   by_value (Whole z) g e f h = taken e f h
 
-  by_count : {b : Build} {n : ℕ} {t : Token} {role : Role} {rule : TokenRule} {r : List Move} {s : List Slot} (few : Bool) (m : Numeral) (g : ℤ → Build) →
+  by_count : {b : Build} {n : ℕ} {t : Token} {role : Role} {rule : TokenRule} {r : List Move} {s : List Slot}
+      (few : Bool) (m : Numeral) (g : ℤ → Build) →
       act b role t ≡ cond few (numeral_value m >>= λ z. Ok (g z)) (Err kind.TooMany) →
       fault_under rule n t ≡ cond few (numeral_fault m) (Some kind.TooMany) →
       Agrees E (g (coordinate_of m)) (begun_with rule n) r s → Agrees E b n (move t role ∷ r) (slot t rule ∷ s)
@@ -115,8 +117,8 @@ module _ (E : Build → Type 0) where
       (by_value p.y (with_point c (Some (coordinate_of p.x))) refl refl (more_on tag p.more _ (n + 1) r s h))
 
   -- A position of a line or ring.
-  position_on : {tag : Tag} (p : Position tag) (f : Figure) (shell : Option (List Pt)) (holes : List (List Pt)) (k : ℕ) (way : List Pt) (n : ℕ)
-      (r : List Move) (s : List Slot) → Agrees E (at f (way ++ point_of_position p ∷ []) shell holes (n + 1) k) (n + 1) r s →
+  position_on : {tag : Tag} (p : Position tag) (f : Figure) (shell : Option (List Pt)) (holes : List (List Pt)) (k : ℕ) (way : List Pt)
+      (n : ℕ) (r : List Move) (s : List Slot) → Agrees E (at f (way ++ point_of_position p ∷ []) shell holes (n + 1) k) (n + 1) r s →
       Agrees E (at f way shell holes n k) n (moves.position_then WayY p r) (position_then p s)
   unfolding act
   position_on {tag} p f shell holes k way n r s h =
@@ -212,7 +214,8 @@ module _ (E : Build → Type 0) where
   element_on f k (bare p) l n r s h = point_on p f k l n r s (h (n + 1))
   element_on f k (bracketed p) l n r s h = plain (point_on p f k l n _ _ (plain (h (n + 1))))
 
-  gaps_on : (g : ℕ) (b : Build) (n : ℕ) (r : List Move) (s : List Slot) → Agrees E b n r s → Agrees E b n (moves.gaps_then g r) (gaps_then g s)
+  gaps_on : (g : ℕ) (b : Build) (n : ℕ) (r : List Move) (s : List Slot) → Agrees E b n r s →
+      Agrees E b n (moves.gaps_then g r) (gaps_then g s)
   gaps_on zero b n r s h = h
   gaps_on (suc g) b n r s h = plain (plain (gaps_on g b n r s h))
 
@@ -257,17 +260,32 @@ module _ (E : Build → Type 0) where
   same_figure f g e r s h n k = subst (λ f. Agrees E (at f [] None [] n k) n r s) e (h n k)
 
   made_points : (f : Figure) (ps : List Pt) (r : List Move) (s : List Slot) →
-      Makes (record { points = f.points ++ ps; lines = f.lines ++ []; areas = f.areas ++ [] }) r s → Makes (with_points f (f.points ++ ps)) r s
+      Makes (record {
+        points =
+            f.points ++ ps;
+        lines = f.lines ++ [];
+        areas = f.areas ++ [];
+      }) r s → Makes (with_points f (f.points ++ ps)) r s
   made_points f ps r s h =
       same_figure _ _ (λ i. record { points = f.points ++ ps; lines = append-nil f.lines i; areas = append-nil f.areas i }) r s h
 
   made_lines : (f : Figure) (ls : List (List Pt)) (r : List Move) (s : List Slot) →
-      Makes (record { points = f.points ++ []; lines = f.lines ++ ls; areas = f.areas ++ [] }) r s → Makes (with_lines f (f.lines ++ ls)) r s
+      Makes (record {
+        points =
+            f.points ++ [];
+        lines = f.lines ++ ls;
+        areas = f.areas ++ [];
+      }) r s → Makes (with_lines f (f.lines ++ ls)) r s
   made_lines f ls r s h =
       same_figure _ _ (λ i. record { points = append-nil f.points i; lines = f.lines ++ ls; areas = append-nil f.areas i }) r s h
 
   made_areas : (f : Figure) (rs : List Area) (r : List Move) (s : List Slot) →
-      Makes (record { points = f.points ++ []; lines = f.lines ++ []; areas = f.areas ++ rs }) r s → Makes (with_areas f (f.areas ++ rs)) r s
+      Makes (record {
+        points =
+            f.points ++ [];
+        lines = f.lines ++ [];
+        areas = f.areas ++ rs;
+      }) r s → Makes (with_areas f (f.areas ++ rs)) r s
   made_areas f rs r s h =
       same_figure _ _ (λ i. record { points = append-nil f.points i; lines = append-nil f.lines i; areas = f.areas ++ rs }) r s h
 
@@ -277,7 +295,8 @@ module _ (E : Build → Type 0) where
   made_none f r s h =
       same_figure _ _ (λ i. record { points = f.points; lines = f.lines; areas = append-nil f.areas i }) r s (made_areas f [] r s h)
 
-  polygon_on : {tag : Tag} (x : Surface tag) (f : Figure) (n k : ℕ) (r : List Move) (s : List Slot) → Makes (with_part f (tag, polygon x)) r s →
+  polygon_on : {tag : Tag} (x : Surface tag) (f : Figure) (n k : ℕ) (r : List Move) (s : List Slot) →
+      Makes (with_part f (tag, polygon x)) r s →
       Agrees E (at f [] None [] n k) n (moves.surface_then Group x r) (surface_then x s)
   unfolding act
   polygon_on empty_surface f n k r s h = plain (made_none f r s h n k)
@@ -329,7 +348,8 @@ module _ (E : Build → Type 0) where
   word_on depth (apart t) b n r s h = by_word (nat_lt depth most_depth) (act_word (nat_lt depth most_depth) b _) refl (plain h)
 
   mutual
-    geometry_on : (g : Geometry) (depth : ℕ) (f : Figure) (n k : ℕ) (r : List Move) (s : List Slot) → Makes (with_parts f (parts_of g)) r s →
+    geometry_on : (g : Geometry) (depth : ℕ) (f : Figure) (n k : ℕ) (r : List Move) (s : List Slot) →
+        Makes (with_parts f (parts_of g)) r s →
         Agrees E (at f [] None [] n k) n (moves.geometry_then g depth r) (geometry_then g depth s)
     geometry_on (simple w x) depth f n k r s h = head_on (type_of_simple x) w _ n _ _ (simple_on x f n k r s h)
     geometry_on (empty_collection w) depth f n k r s h = word_on depth w _ n _ _ (plain (h n k))

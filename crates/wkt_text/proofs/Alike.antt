@@ -111,7 +111,8 @@ word_no_third : (shallow : Bool) → third_of_role (cond shallow Head Deep) ≡ 
 word_no_third true = refl
 word_no_third false = refl
 
-likens_word : (depth : ℕ) → Likens (moves.head_then (depth_role depth) type.GeometryCollection) (head_then (nested depth) type.GeometryCollection)
+likens_word : (depth : ℕ) →
+    Likens (moves.head_then (depth_role depth) type.GeometryCollection) (head_then (nested depth) type.GeometryCollection)
 likens_word depth w r s h =
     likens_head (depth_role depth) (nested depth) type.GeometryCollection (word_no_third (nat_lt depth most_depth)) w r s h
 

@@ -53,8 +53,24 @@ last_of [] c d e = inl (e, refl)
 last_of ((t, r) ∷ front) c d (c₁, e, g) = inr (go (last_of front c₁ d g))
   where
     go : ((c₁ ≡ d) × (front ≡ [])) ⊎ Last c₁ front d → Last c (move t r ∷ front) d
-    go (inl (same, none)) = record { before = []; token = t; role = r; control = c; joined = ap (λ u. move t r ∷ u) none; goes = refl; next = e ∙ ap (λ u. Some (r, u)) same }
-    go (inr l) = record { before = move t r ∷ l.before; token = l.token; role = l.role; control = l.control; joined = ap (λ u. move t r ∷ u) l.joined; goes = (c₁, e, l.goes); next = l.next }
+    go (inl (same, none)) = record {
+      before = [];
+      token = t;
+      role = r;
+      control = c;
+      joined = ap (λ u. move t r ∷ u) none;
+      goes = refl;
+      next = e ∙ ap (λ u. Some (r, u)) same;
+    }
+    go (inr l) = record {
+      before = move t r ∷ l.before;
+      token = l.token;
+      role = l.role;
+      control = l.control;
+      joined = ap (λ u. move t r ∷ u) l.joined;
+      goes = (c₁, e, l.goes);
+      next = l.next;
+    }
 
 -- ---- what is built
 
@@ -81,16 +97,20 @@ pub builds-append : (front rest : List Move) (b : Build) → builds b (front ++ 
 builds-append [] rest b = refl
 builds-append (x ∷ front) rest b = bind_after (act b x.1 x.0) _ _ _ (λ c. builds-append front rest c)
 
-bind_ok : (r : Result Build WktKind) (f : Build → Result Build WktKind) (d : Build) → (r >>= f) ≡ Ok d → (b : Build) × (r ≡ Ok b) × (f b ≡ Ok d)
+bind_ok : (r : Result Build WktKind) (f : Build → Result Build WktKind) (d : Build) → (r >>= f) ≡ Ok d →
+    (b : Build) × (r ≡ Ok b) × (f b ≡ Ok d)
 bind_ok (Ok b) f d e = (b, refl, e)
 bind_ok (Err k) f d e = absurd (cc)
 
 -- The front of what is right is right.
-pub builds_front : (front rest : List Move) (b d : Build) → builds b (front ++ rest) ≡ Ok d → (c : Build) × (builds b front ≡ Ok c) × (builds c rest ≡ Ok d)
+pub builds_front : (front rest : List Move) (b d : Build) → builds b (front ++ rest) ≡ Ok d →
+    (c : Build) × (builds b front ≡ Ok c) × (builds c rest ≡ Ok d)
 builds_front front rest b d e = bind_ok (builds b front) (λ c. builds c rest) d (sym (builds-append front rest b) ∙ e)
 
-pub builds_push : (front : List Move) (b c d : Build) (t : Token) (r : Role) → builds b front ≡ Ok c → act c r t ≡ Ok d → builds b (front ++ move t r ∷ []) ≡ Ok d
-builds_push front b c d t r e f = builds-append front (move t r ∷ []) b ∙ ap (λ u. u >>= λ c. builds c (move t r ∷ [])) e ∙ ap (λ u. u >>= λ c. Ok c) f
+pub builds_push : (front : List Move) (b c d : Build) (t : Token) (r : Role) → builds b front ≡ Ok c → act c r t ≡ Ok d →
+    builds b (front ++ move t r ∷ []) ≡ Ok d
+builds_push front b c d t r e f =
+    builds-append front (move t r ∷ []) b ∙ ap (λ u. u >>= λ c. builds c (move t r ∷ [])) e ∙ ap (λ u. u >>= λ c. Ok c) f
 
 pub builds_one : (b d : Build) (t : Token) (r : Role) → builds b (move t r ∷ []) ≡ Ok d → act b r t ≡ Ok d
 builds_one b d t r e = let (c, f, g) = bind_ok (act b r t) (λ c. Ok c) d e in f ∙ g

@@ -33,13 +33,14 @@ use Rattle.wkt_text.proofs.Splits.{kept_front, meets_stop}
 use Rattle.wkt_text.proofs.Spells.{spelled_run}
 use Rattle.wkt_text.proofs.Courses.{goes_split, err_same}
 use Rattle.wkt_text.proofs.FirstFaults.{Taken, agrees_so, continues_taken, unknown_not_ragged}
-use Rattle.wkt_text.proofs.Progress.{stands_compare, one_reading, right_front}
+use Rattle.wkt_text.proofs.Progress.{GoesOn, stands_compare, one_reading, right_front}
 
 white_end : (scale : ℕ) (bytes : List ℕ) (from : ℕ) → IsOnlyWhite bytes from → (lexeme_at scale bytes from).token ≡ token.End
 unfolding lexeme_at
 white_end scale bytes from white =
     let e = prefix_len-all is_white (drop from bytes) white in
-    ap (λ u. (token_in scale u).0) (drop_all (from + prefix_len is_white (drop from bytes)) bytes (omega (arith, e, length-drop from bytes)))
+    ap (λ u. (token_in scale u).0)
+    (drop_all (from + prefix_len is_white (drop from bytes)) bytes (omega (arith, e, length-drop from bytes)))
 
 head_first : (rule : TokenRule) (kind : TypeWord) (w : Writing) (rest : List Slot) →
     (t : Tag) × (more : List Token) × (tokens_of (head_then rule kind w rest) ≡ token.Type kind t ∷ more)
@@ -63,7 +64,8 @@ pub type_is_no_end : (kind : TypeWord) (t : Tag) → ◌≡◌ {A = Token} token
 type_is_no_end kind t e = cc
 
 -- Where only white space follows, nothing is read.
-pub white_unread : (scale : ℕ) (bytes : List ℕ) (from : ℕ) (figure : Figure) (last : ℕ) → IsOnlyWhite bytes from → Reads scale bytes from figure last → ⊥
+pub white_unread : (scale : ℕ) (bytes : List ℕ) (from : ℕ) (figure : Figure) (last : ℕ) → IsOnlyWhite bytes from →
+    Reads scale bytes from figure last → ⊥
 white_unread scale bytes from figure last white r =
     let (t, more, e) = spelling_first r.geometry in
     first_not_end (type_of_geometry r.geometry) t more (subst (λ u. Stands scale bytes from u last) e r.stands)
@@ -85,7 +87,8 @@ fault_read_as scale bytes from fault.NoMemory figure last f r = tt
 -- ---- one first fault
 
 -- The tokens before a first fault go no further than those before another.
-fault_ends : (ts more us : List Token) (t : Token) → (IsRight (ts ++ t ∷ []) → ⊥) → IsRight us → (u : Token) → u ≡ t → us ≡ ts ++ u ∷ more → ⊥
+fault_ends : (ts more us : List Token) (t : Token) → (IsRight (ts ++ t ∷ []) → ⊥) → IsRight us → (u : Token) → u ≡ t →
+    us ≡ ts ++ u ∷ more → ⊥
 fault_ends ts more us t wrong right u same e =
     wrong (subst (λ v. IsRight (ts ++ v ∷ [])) same (right_front ts more u (subst IsRight e right)))
 
@@ -135,12 +138,13 @@ one_kind ts t j k right (syntax f u v) (unknown_type g w) = absurd (u w)
 one_kind ts t j k right (syntax f u v) (ragged g w) = absurd (v w)
 one_kind ts t j k right (syntax f u v) (syntax g w x) = refl
 
-pub one_fault : (scale : ℕ) (bytes : List ℕ) (from : ℕ) (j k : WktKind) (p q : ℕ) → FirstFault scale bytes from j p → FirstFault scale bytes from k q → (j ≡ k) × (p ≡ q)
+pub one_fault : (scale : ℕ) (bytes : List ℕ) (from : ℕ) (j k : WktKind) (p q : ℕ) → FirstFault scale bytes from j p →
+    FirstFault scale bytes from k q → (j ≡ k) × (p ≡ q)
 one_fault scale bytes from j k p q f g = go (stands_compare scale bytes f.before g.before from f.after g.after f.stands g.stands)
   where
     same : f.before ≡ g.before → f.after ≡ g.after → (j ≡ k) × (p ≡ q)
     same e a =
-        let t : (lexeme_at scale bytes f.after).token ≡ (lexeme_at scale bytes g.after).token = ap (λ u. (lexeme_at scale bytes u).token) a in (
+        let t = ap (λ u. (lexeme_at scale bytes u).token) a in (
           one_kind g.before _ j k g.right
               (subst (λ u. HasKind u (lexeme_at scale bytes g.after).token j) e (subst (λ u. HasKind f.before u j) t f.kind_is)) g.kind_is,
           f.place_is ∙ ap (λ u. (lexeme_at scale bytes u).start) a ∙ sym g.place_is,
@@ -154,10 +158,9 @@ one_fault scale bytes from j k p q f g = go (stands_compare scale bytes f.before
     right_side [] e h = same (e ∙ append-nil g.before) (sym h)
     right_side (u ∷ more) e (first, h) = absurd (fault_ends g.before more f.before _ g.wrong f.right u (sym first) e)
 
-    go : ((more : List Token) × (g.before ≡ f.before ++ more) × Stands scale bytes f.after more g.after)
-        ⊎ ((more : List Token) × (f.before ≡ g.before ++ more) × Stands scale bytes g.after more f.after) → (j ≡ k) × (p ≡ q)
-    go (inl (more, e, h)) = left more e h
-    go (inr (more, e, h)) = right_side more e h
+    go : GoesOn scale bytes f.before g.before f.after g.after ⊎ GoesOn scale bytes g.before f.before g.after f.after → (j ≡ k) × (p ≡ q)
+    go (inl on) = left on.more on.joined on.stands
+    go (inr on) = right_side on.more on.joined on.stands
 
 -- Where a fault was found, it is the first fault, unless memory was wanting.
 pub fault_as : (scale : ℕ) (bytes : List ℕ) (from : ℕ) (e : WktFault) (kind : WktKind) (place : ℕ) → IsFirstFault e scale bytes from →

@@ -146,7 +146,8 @@ right_taken ts c b t k n = go (continues_taken ts c b t p.last k one)
     go m = by m.role m.control m.next m.meets
 
 -- One more token is taken.
-pub taken_more : (ts : List Token) (c c' : Control) (b b' : Build) (t : Token) → Taken ts c b → IsTaken c b t c' b' → Taken (ts ++ t ∷ []) c' b'
+pub taken_more : (ts : List Token) (c c' : Control) (b b' : Build) (t : Token) → Taken ts c b → IsTaken c b t c' b' →
+    Taken (ts ++ t ∷ []) c' b'
 taken_more ts c c' b b' t k n = record {
   front = k.front ++ move t n.role ∷ [];
   tokens = tokens_in-push k.front t n.role ∙ ap (λ u. u ++ t ∷ []) k.tokens;
@@ -227,7 +228,8 @@ fact_after step (site.Ring many ring.Shell) d tag token.Close f = tt
 fact_after step (site.Ring many ring.Hole) d tag token.Close f = tt
 fact_after step (site.Ring many kind) d tag other f = tt
 
-fact_body : (step : Step) (kind : TypeWord) (s : Site) (d : ℕ) (tag : Tag) (t : Token) (from_step : Step) → Fact step tag (at_body (at from_step s d tag) kind t)
+fact_body : (step : Step) (kind : TypeWord) (s : Site) (d : ℕ) (tag : Tag) (t : Token) (from_step : Step) →
+    Fact step tag (at_body (at from_step s d tag) kind t)
 fact_body step type.Point s d tag token.Empty f = ended_not_full d
 fact_body step type.LineString s d tag token.Empty f = ended_not_full d
 fact_body step type.Polygon s d tag token.Empty f = ended_not_full d
@@ -342,7 +344,8 @@ meeting_fact : {c : Control} {b : Build} {t : Token} {rule : TokenRule} {n : ℕ
     ThirdFact (third_of_rule rule) c.step c.tag m.control.step
 unfolding advance
 meeting_fact {c} {b} {t} m =
-    subst (λ o. ThirdFact o c.step c.tag m.control.step) m.third (subst (λ n. Fact c.step c.tag n) m.next (fact c.step c.site c.depth c.tag t))
+    subst (λ o. ThirdFact o c.step c.tag m.control.step) m.third
+    (subst (λ n. Fact c.step c.tag n) m.next (fact c.step c.site c.depth c.tag t))
 
 -- A type word is taken at the start alone.
 type_starts : (step : Step) (s : Site) (d : ℕ) (tag : Tag) (kind : TypeWord) (u : Tag) (n : Role × Control) →
@@ -391,7 +394,8 @@ cause After tag t = inr (inr (λ a b. b, λ a. a, λ a b. b, refl))
 cause Done tag t = inr (inr (λ a b. b, λ a. a, λ a b. b, refl))
 
 -- A type word may stand at the start, and a demanded ordinate where the tag demands one.
-start_expected : (ts : List Token) (step : Step) (s : Site) (d : ℕ) (tag : Tag) (b : Build) → Taken ts (at step s d tag) b → IsStart step → IsTypeExpected ts
+start_expected : (ts : List Token) (step : Step) (s : Site) (d : ℕ) (tag : Tag) (b : Build) → Taken ts (at step s d tag) b →
+    IsStart step → IsTypeExpected ts
 unfolding advance
 start_expected ts Start s d tag b k h =
     let (rule, n) = taken_continues ts (at Start s d tag) (at (Body type.Point) s d Z) b (token.Type type.Point Z) Head k refl in
@@ -414,7 +418,8 @@ demanded_rule further e = absurd (cc)
 demanded_rule other e = absurd (none-some _ (sym e))
 
 -- Where the reader takes NaN as a demanded ordinate, the tag demands one.
-nan_demanded : (ts : List Token) (c c' : Control) (b : Build) → Taken ts c b → advance c token.Nan ≡ Some (Demanded, c') → IsOrdinateDemanded ts
+nan_demanded : (ts : List Token) (c c' : Control) (b : Build) → Taken ts c b → advance c token.Nan ≡ Some (Demanded, c') →
+    IsOrdinateDemanded ts
 nan_demanded ts c c' b k next =
     let (rule, n) = taken_continues ts c c' b token.Nan Demanded k next in
     let m = continues_taken ts c b token.Nan rule k n in
@@ -460,7 +465,8 @@ record LastTaken (ts : List Token) (c : Control) : Type 0 where
 last_taken : (ts : List Token) (c : Control) (b : Build) → Taken ts c b → ((start ≡ c) × (ts ≡ [])) ⊎ LastTaken ts c
 last_taken ts c b k = go (last_of k.front start c k.goes)
   where
-    made : (l : Last start k.front c) → (d : Build) × (builds start_build l.before ≡ Ok d) × (builds d (move l.token l.role ∷ []) ≡ Ok b) → LastTaken ts c
+    made : (l : Last start k.front c) →
+        (d : Build) × (builds start_build l.before ≡ Ok d) × (builds d (move l.token l.role ∷ []) ≡ Ok b) → LastTaken ts c
     made l (d, e, f) = record {
       before = tokens_in l.before;
       token = l.token;
@@ -474,7 +480,8 @@ last_taken ts c b k = go (last_of k.front start c k.goes)
 
     go : ((start ≡ c) × (k.front ≡ [])) ⊎ Last start k.front c → ((start ≡ c) × (ts ≡ [])) ⊎ LastTaken ts c
     go (inl (e, none)) = inl (e, sym k.tokens ∙ ap tokens_in none)
-    go (inr l) = inr (made l (builds_front l.before (move l.token l.role ∷ []) start_build b (ap (builds start_build) (sym l.joined) ∙ k.kept)))
+    go (inr l) =
+        inr (made l (builds_front l.before (move l.token l.role ∷ []) start_build b (ap (builds start_build) (sym l.joined) ∙ k.kept)))
 
 not_both : (next : Step) → IsFull next → IsNotFull next → ⊥
 not_both Full h k = k
@@ -491,7 +498,8 @@ third_late : (rule : TokenRule) (step next : Step) (tag : Tag) → ThirdFact (th
 third_late rule step next tag f (inl e) = (subst (λ u. ThirdFact (third_of_rule u) step tag next) e f).1
 third_late rule step next tag f (inr e) = subst (λ u. ThirdFact (third_of_rule u) step tag next) e f
 
-late_refused : (step : Step) (s : Site) (d : ℕ) (tag : Tag) (t : Token) → IsLate step → IsOrdinate t → advance_by step (at step s d tag) t ≡ None → IsFull step
+late_refused : (step : Step) (s : Site) (d : ℕ) (tag : Tag) (t : Token) → IsLate step → IsOrdinate t →
+    advance_by step (at step s d tag) t ≡ None → IsFull step
 late_refused Full s d tag t l o e = tt
 late_refused Three s d tag (token.Number n) l o e = absurd (some_none e)
 late_refused Three s d tag token.Nan l o e = absurd (some_none e)
@@ -535,7 +543,8 @@ third_is_late ts c b k a = go (last_taken ts c b k)
     go (inl (e, none)) = absurd (push_nil a.before a.ordinate (sym none ∙ a.joined))
     go (inr l) =
         let (fronts, tokens) = same_from_push l.before a.before l.token a.ordinate (sym l.joined ∙ a.joined) in
-        let n = subst (λ u. Continues l.before u a.rule) (sym tokens) (subst (λ u. Continues u a.ordinate a.rule) (sym fronts) a.continues) in
+        let n =
+        subst (λ u. Continues l.before u a.rule) (sym tokens) (subst (λ u. Continues u a.ordinate a.rule) (sym fronts) a.continues) in
         let m = continues_taken l.before l.control l.build l.token a.rule l.taken n in
         subst (λ (u : Control). IsLate u.step) (same_control m l.role c l.next)
         (third_late a.rule l.control.step m.control.step l.control.tag (meeting_fact m) a.third)
@@ -551,7 +560,8 @@ demanded_at : (ts : List Token) (c : Control) (b : Build) → IsOrdinateDemanded
 demanded_at ts c b x k = (meeting_fact (continues_taken ts c b x.ordinate demanded k x.continues)).0
 
 -- A token that the reader doesn't take has the kind that it says.
-pub refused_has_kind : (ts : List Token) (c : Control) (b : Build) (t : Token) → Taken ts c b → advance c t ≡ None → HasKind ts t (refused_kind c t)
+pub refused_has_kind : (ts : List Token) (c : Control) (b : Build) (t : Token) → Taken ts c b → advance c t ≡ None →
+    HasKind ts t (refused_kind c t)
 unfolding advance refused_kind
 refused_has_kind ts c b t k none = go (cause c.step c.tag t)
   where
@@ -567,12 +577,14 @@ refused_has_kind ts c b t k none = go (cause c.step c.tag t)
 
     go : Cause c.step c.tag t (refused_by c.step c.tag t) → HasKind ts t (refused_by c.step c.tag t)
     go (inl (w, s, e)) = subst (λ u. HasKind ts t u) (sym e) (unknown_type refused (w, start_expected ts c.step c.site c.depth c.tag b k s))
-    go (inr (inl (inl d, e))) = subst (λ u. HasKind ts t u) (sym e) (ragged refused (inl (demanded_expected ts c.step c.site c.depth c.tag b k d)))
+    go (inr (inl (inl d, e))) =
+        subst (λ u. HasKind ts t u) (sym e) (ragged refused (inl (demanded_expected ts c.step c.site c.depth c.tag b k d)))
     go (inr (inl (inr (o, f), e))) = subst (λ u. HasKind ts t u) (sym e) (ragged refused (inr (o, after_third ts c b k f)))
     go (inr (inr (f, g, h, e))) = subst (λ u. HasKind ts t u) (sym e) (syntax refused (not_unknown f) (not_ragged g h))
 
 -- With a token that the reader doesn't take, the tokens are no more right.
-pub faulty_wrong : (ts : List Token) (c : Control) (b : Build) (t : Token) (kind : WktKind) → Taken ts c b → IsFaulty c b t kind → IsRight (ts ++ t ∷ []) → ⊥
+pub faulty_wrong : (ts : List Token) (c : Control) (b : Build) (t : Token) (kind : WktKind) → Taken ts c b → IsFaulty c b t kind →
+    IsRight (ts ++ t ∷ []) → ⊥
 faulty_wrong ts c b t kind k (inl (none, e)) right = let (c', b', n) = right_taken ts c b t k right in some_none (sym n.next ∙ none)
 faulty_wrong ts c b t kind k (inr x) right =
     let (c', b', n) = right_taken ts c b t k right in
@@ -580,7 +592,8 @@ faulty_wrong ts c b t kind k (inr x) right =
     ok_err (sym n.done ∙ ap (λ u. act b u t) roles ∙ x.stopped)
 
 -- The kind of a token that the reader doesn't take.
-pub faulty_has_kind : (ts : List Token) (c : Control) (b : Build) (t : Token) (kind : WktKind) → Taken ts c b → IsFaulty c b t kind → HasKind ts t kind
+pub faulty_has_kind : (ts : List Token) (c : Control) (b : Build) (t : Token) (kind : WktKind) → Taken ts c b → IsFaulty c b t kind →
+    HasKind ts t kind
 faulty_has_kind ts c b t kind k (inl (none, e)) = subst (λ u. HasKind ts t u) (sym e) (refused_has_kind ts c b t k none)
 faulty_has_kind ts c b t kind k (inr x) =
     let (rule, n) = taken_continues ts c x.control b t x.role k x.next in

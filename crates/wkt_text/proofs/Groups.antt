@@ -34,7 +34,8 @@ with_parts-append f (p ∷ ps) qs = with_parts-append (with_part f p) ps qs
 pub last_push : (l : List Area) (x : Area) → next_group (l ++ x ∷ []) ≡ x.group + 1
 last_push l x =
     let e : length (l ++ x ∷ []) - 1 ≡ length l = rw (length_push l x) (omega arith) in
-    let i = slice_get_read (l ++ x ∷ []) (length l + 1) (length l) x (sym (length_push l x)) (omega arith) (sym (get_or_push l x x (length l) refl)) in
+    let last = sym (get_or_push l x x (length l) refl) in
+    let i = slice_get_read (l ++ x ∷ []) (length l + 1) (length l) x (sym (length_push l x)) (omega arith) last in
     rw (e, i) refl
 
 -- After the areas of a group the next group has the next number.

@@ -33,13 +33,16 @@ AfterTop zero s = Unit {0}
 AfterTop (suc d) s = Ended (suc d) s
 
 abbrev AfterPoints : Tag → ℕ → List Move → Type 0
-AfterPoints tag d s = (xs : List (Element tag)) × (rest : List Move) × (s ≡ others_then element_then xs (move token.Close Mark ∷ rest)) × Ended d rest
+AfterPoints tag d s =
+    (xs : List (Element tag)) × (rest : List Move) × (s ≡ others_then element_then xs (move token.Close Mark ∷ rest)) × Ended d rest
 
 abbrev AfterLines : Tag → ℕ → List Move → Type 0
-AfterLines tag d s = (xs : List (Way tag)) × (rest : List Move) × (s ≡ others_then (way_then EndLine) xs (move token.Close Mark ∷ rest)) × Ended d rest
+AfterLines tag d s =
+    (xs : List (Way tag)) × (rest : List Move) × (s ≡ others_then (way_then EndLine) xs (move token.Close Mark ∷ rest)) × Ended d rest
 
 abbrev AfterPolygons : Tag → ℕ → List Move → Type 0
-AfterPolygons tag d s = (xs : List (Surface tag)) × (rest : List Move) × (s ≡ others_then (surface_then Mark) xs (move token.Close Mark ∷ rest)) × Ended d rest
+AfterPolygons tag d s =
+    (xs : List (Surface tag)) × (rest : List Move) × (s ≡ others_then (surface_then Mark) xs (move token.Close Mark ∷ rest)) × Ended d rest
 
 abbrev UpLine : Membership → Tag → ℕ → List Move → Type 0
 UpLine Alone tag d s = Ended d s
@@ -50,13 +53,16 @@ UpPolygon Alone tag d s = Ended d s
 UpPolygon Member tag d s = AfterPolygons tag d s
 
 abbrev AfterHoles : Membership → Tag → ℕ → List Move → Type 0
-AfterHoles many tag d s = (xs : List (Way tag)) × (rest : List Move) × (s ≡ others_then (way_then EndHole) xs (move token.Close EndArea ∷ rest)) × UpPolygon many tag d rest
+AfterHoles many tag d s =
+    (xs : List (Way tag)) × (rest : List Move)
+    × (s ≡ others_then (way_then EndHole) xs (move token.Close EndArea ∷ rest)) × UpPolygon many tag d rest
 
 abbrev AfterHollow : Membership → Tag → ℕ → List Move → Type 0
 AfterHollow many tag d s = (n : ℕ) × (rest : List Move) × (s ≡ gaps_then n (move token.Close Mark ∷ rest)) × UpPolygon many tag d rest
 
 abbrev AfterPositions : Tag → Role → (List Move → Type 0) → List Move → Type 0
-AfterPositions tag end Up s = (ps : List (Position tag)) × (rest : List Move) × (s ≡ others_then (position_then WayY) ps (move token.Close end ∷ rest)) × Up rest
+AfterPositions tag end Up s =
+    (ps : List (Position tag)) × (rest : List Move) × (s ≡ others_then (position_then WayY) ps (move token.Close end ∷ rest)) × Up rest
 
 abbrev AfterClose : (List Move → Type 0) → List Move → Type 0
 AfterClose Up s = (rest : List Move) × (s ≡ move token.Close Mark ∷ rest) × Up rest
@@ -98,7 +104,8 @@ PositionOf at tag d s = (p : Position tag) × (rest : List Move) × (s ≡ posit
 
 abbrev SecondOf : Site → Tag → ℕ → List Move → Type 0
 SecondOf at tag d s =
-    (y : Numeral) × (m : More tag) × (rest : List Move) × (s ≡ move (token.Number y) (second_role at) ∷ more_then tag m rest) × AfterSite at tag d rest
+    (y : Numeral) × (m : More tag) × (rest : List Move)
+    × (s ≡ move (token.Number y) (second_role at) ∷ more_then tag m rest) × AfterSite at tag d rest
 
 abbrev TwoOf : Site → Tag → ℕ → List Move → Type 0
 TwoOf at tag d s = (m : More tag) × (rest : List Move) × (s ≡ more_then tag m rest) × AfterSite at tag d rest
@@ -167,12 +174,14 @@ nothing (Some n) t rest = λ h. tt
 back_after : (s : Site) (d : ℕ) (tag : Tag) (t : Token) (rest : List Move) → (step : Step) →
     Back (at_after (at step s d tag) t) (AfterSite s tag d) t rest
 back_after site.Top zero tag t rest step = nothing (at_after (at step site.Top zero tag) t) t rest
-back_after site.Top (suc d) tag token.Comma rest step = λ (g, r, e, (gs, r₂, e₂, up)). (more g gs, r₂, put _ (e ∙ ap (geometry_then g (suc d)) e₂), up)
+back_after site.Top (suc d) tag token.Comma rest step =
+    λ (g, r, e, (gs, r₂, e₂, up)). (more g gs, r₂, put _ (e ∙ ap (geometry_then g (suc d)) e₂), up)
 back_after site.Top (suc d) tag token.Close rest step = λ h. (none, rest, refl, is_ended d tag rest h)
 back_after site.Top (suc d) tag other rest step = tt
 back_after site.Point d tag token.Close rest step = λ h. (rest, refl, is_ended d tag rest h)
 back_after site.Point d tag other rest step = tt
-back_after (site.Line many) d tag token.Comma rest step = λ (p, r, e, (ps, r₂, e₂, up)). (p ∷ ps, r₂, put _ (e ∙ ap (position_then WayY p) e₂), up)
+back_after (site.Line many) d tag token.Comma rest step =
+    λ (p, r, e, (ps, r₂, e₂, up)). (p ∷ ps, r₂, put _ (e ∙ ap (position_then WayY p) e₂), up)
 back_after (site.Line Alone) d tag token.Close rest step = λ h. ([], rest, refl, is_ended d tag rest h)
 back_after (site.Line Member) d tag token.Close rest step = λ h. ([], rest, refl, h)
 back_after (site.Line many) d tag other rest step = tt
@@ -184,12 +193,14 @@ back_after site.Element d tag other rest step = tt
 back_after site.Lines d tag token.Comma rest step = λ (x, r, e, (xs, r₂, e₂, up)). (x ∷ xs, r₂, put _ (e ∙ ap (way_then EndLine x) e₂), up)
 back_after site.Lines d tag token.Close rest step = λ h. ([], rest, refl, is_ended d tag rest h)
 back_after site.Lines d tag other rest step = tt
-back_after site.Polygons d tag token.Comma rest step = λ (x, r, e, (xs, r₂, e₂, up)). (x ∷ xs, r₂, put _ (e ∙ ap (surface_then Mark x) e₂), up)
+back_after site.Polygons d tag token.Comma rest step =
+    λ (x, r, e, (xs, r₂, e₂, up)). (x ∷ xs, r₂, put _ (e ∙ ap (surface_then Mark x) e₂), up)
 back_after site.Polygons d tag token.Close rest step = λ h. ([], rest, refl, is_ended d tag rest h)
 back_after site.Polygons d tag other rest step = tt
 back_after (site.Polygon many Shell) d tag token.Close rest step = λ h. tt
 back_after (site.Polygon many Shell) d tag other rest step = tt
-back_after (site.Polygon many Hole) d tag token.Comma rest step = λ (x, r, e, (xs, r₂, e₂, up)). (x ∷ xs, r₂, put _ (e ∙ ap (way_then EndHole x) e₂), up)
+back_after (site.Polygon many Hole) d tag token.Comma rest step =
+    λ (x, r, e, (xs, r₂, e₂, up)). (x ∷ xs, r₂, put _ (e ∙ ap (way_then EndHole x) e₂), up)
 back_after (site.Polygon Alone Hole) d tag token.Close rest step = λ h. ([], rest, refl, is_ended d tag rest h)
 back_after (site.Polygon Member Hole) d tag token.Close rest step = λ h. ([], rest, refl, h)
 back_after (site.Polygon many Hole) d tag other rest step = tt
@@ -197,8 +208,10 @@ back_after (site.Polygon many Hollow) d tag token.Comma rest step = λ (r, e, (n
 back_after (site.Polygon Alone Hollow) d tag token.Close rest step = λ h. (0, rest, refl, is_ended d tag rest h)
 back_after (site.Polygon Member Hollow) d tag token.Close rest step = λ h. (0, rest, refl, h)
 back_after (site.Polygon many Hollow) d tag other rest step = tt
-back_after (site.Ring many ring.Shell) d tag token.Comma rest step = λ (p, r, e, (ps, r₂, e₂, up)). (p ∷ ps, r₂, put _ (e ∙ ap (position_then WayY p) e₂), up)
-back_after (site.Ring many ring.Hole) d tag token.Comma rest step = λ (p, r, e, (ps, r₂, e₂, up)). (p ∷ ps, r₂, put _ (e ∙ ap (position_then WayY p) e₂), up)
+back_after (site.Ring many ring.Shell) d tag token.Comma rest step =
+    λ (p, r, e, (ps, r₂, e₂, up)). (p ∷ ps, r₂, put _ (e ∙ ap (position_then WayY p) e₂), up)
+back_after (site.Ring many ring.Hole) d tag token.Comma rest step =
+    λ (p, r, e, (ps, r₂, e₂, up)). (p ∷ ps, r₂, put _ (e ∙ ap (position_then WayY p) e₂), up)
 back_after (site.Ring many ring.Shell) d tag token.Close rest step = λ h. ([], rest, refl, h)
 back_after (site.Ring many ring.Hole) d tag token.Close rest step = λ h. ([], rest, refl, h)
 back_after (site.Ring many kind) d tag other rest step = tt
@@ -217,15 +230,18 @@ back_item site.Lines d tag other rest = tt
 back_item site.Polygons d tag token.Empty rest = λ h. (empty_surface, rest, refl, h)
 back_item site.Polygons d tag token.Open rest = λ h. open_surface h
   where
-    open_surface : ItemOf (site.Polygon Member Shell) tag d rest → OneOf (surface_then {tag = tag} Mark) (AfterPolygons tag d) (move token.Open Mark ∷ rest)
+    open_surface : ItemOf (site.Polygon Member Shell) tag d rest → OneOf (surface_then {tag =
+        tag} Mark) (AfterPolygons tag d) (move token.Open Mark ∷ rest)
     open_surface (inl (r, e, (n, r₂, e₂, up))) = (hollow n, r₂, put _ (e ∙ put _ e₂), up)
     open_surface (inr (p, ps, r, e, (ws, r₂, e₂, up))) = (area p ps ws, r₂, put _ (e ∙ ap (along_then EndShell p ps) e₂), up)
 back_item site.Polygons d tag other rest = tt
 back_item (site.Polygon many Shell) d tag token.Empty rest = λ h. inl (rest, refl, h)
-back_item (site.Polygon many Shell) d tag token.Open rest = λ (p, r, e, (ps, r₂, e₂, up)). inr (p, ps, r₂, put _ (e ∙ ap (position_then WayY p) e₂), up)
+back_item (site.Polygon many Shell) d tag token.Open rest =
+    λ (p, r, e, (ps, r₂, e₂, up)). inr (p, ps, r₂, put _ (e ∙ ap (position_then WayY p) e₂), up)
 back_item (site.Polygon many Shell) d tag other rest = tt
 back_item (site.Polygon many Hole) d tag token.Empty rest = λ h. (empty_way, rest, refl, h)
-back_item (site.Polygon many Hole) d tag token.Open rest = λ (p, r, e, (ps, r₂, e₂, up)). (along p ps, r₂, put _ (e ∙ ap (position_then WayY p) e₂), up)
+back_item (site.Polygon many Hole) d tag token.Open rest =
+    λ (p, r, e, (ps, r₂, e₂, up)). (along p ps, r₂, put _ (e ∙ ap (position_then WayY p) e₂), up)
 back_item (site.Polygon many Hole) d tag other rest = tt
 back_item (site.Polygon many Hollow) d tag token.Empty rest = λ h. (rest, refl, h)
 back_item (site.Polygon many Hollow) d tag other rest = tt
@@ -235,23 +251,28 @@ back_item (site.Line many) d tag t rest = nothing (advance_by Item (at Item (sit
 back_item site.Element d tag t rest = nothing (advance_by Item (at Item site.Element d tag) t) t rest
 back_item (site.Ring many kind) d tag t rest = nothing (advance_by Item (at Item (site.Ring many kind) d tag) t) t rest
 
-back_first : (s : Site) (d : ℕ) (tag : Tag) (t : Token) (rest : List Move) → Back (advance_by First (at First s d tag) t) (PositionOf s tag d) t rest
+back_first : (s : Site) (d : ℕ) (tag : Tag) (t : Token) (rest : List Move) →
+    Back (advance_by First (at First s d tag) t) (PositionOf s tag d) t rest
 back_first s d tag (token.Number n) rest = λ (y, m, r, e, up). (record { x = n; y = y; more = m }, r, put _ e, up)
 back_first s d tag other rest = tt
 
-back_second : (s : Site) (d : ℕ) (tag : Tag) (t : Token) (rest : List Move) → Back (advance_by Second (at Second s d tag) t) (SecondOf s tag d) t rest
+back_second : (s : Site) (d : ℕ) (tag : Tag) (t : Token) (rest : List Move) →
+    Back (advance_by Second (at Second s d tag) t) (SecondOf s tag d) t rest
 back_second s d tag (token.Number n) rest = λ (m, r, e, up). (n, m, r, put _ e, up)
 back_second s d tag other rest = tt
 
 -- The front of a set is passed on.
-weaken : (n : Next) (F G : List Move → Type 0) (t : Token) (rest : List Move) → ((s : List Move) → F s → G s) → Back n F t rest → Back n G t rest
+weaken : (n : Next) (F G : List Move → Type 0) (t : Token) (rest : List Move) → ((s : List Move) → F s → G s) → Back n F t rest →
+    Back n G t rest
 weaken None F G t rest up h = tt
 weaken (Some n) F G t rest up h = λ k. up _ (h k)
 
 back_two : (s : Site) (d : ℕ) (tag : Tag) (t : Token) (rest : List Move) → Back (advance_by Two (at Two s d tag) t) (TwoOf s tag d) t rest
 back_two s d Plain (token.Number n) rest = λ (o, r, e, up). (Some (number n, o), r, put _ e, up)
 back_two s d Plain token.Nan rest = λ (o, r, e, up). (Some (nan, o), r, put _ e, up)
-back_two s d Plain other rest = weaken (at_after (at Two s d Plain) other) (AfterSite s Plain d) (TwoOf s Plain d) other rest (λ u h. (None, u, refl, h)) (back_after s d Plain other rest Two)
+back_two s d Plain other rest =
+    weaken (at_after (at Two s d Plain) other) (AfterSite s Plain d) (TwoOf s Plain d) other rest
+    (λ u h. (None, u, refl, h)) (back_after s d Plain other rest Two)
 back_two s d Z (token.Number n) rest = λ h. (number n, rest, refl, h)
 back_two s d Z token.Nan rest = λ h. (nan, rest, refl, h)
 back_two s d Z other rest = tt
@@ -262,10 +283,13 @@ back_two s d Zm (token.Number n) rest = λ (o, r, e, up). ((number n, o), r, put
 back_two s d Zm token.Nan rest = λ (o, r, e, up). ((nan, o), r, put _ e, up)
 back_two s d Zm other rest = tt
 
-back_three : (s : Site) (d : ℕ) (tag : Tag) (t : Token) (rest : List Move) → Back (advance_by Three (at Three s d tag) t) (ThreeOf s tag d) t rest
+back_three : (s : Site) (d : ℕ) (tag : Tag) (t : Token) (rest : List Move) →
+    Back (advance_by Three (at Three s d tag) t) (ThreeOf s tag d) t rest
 back_three s d Plain (token.Number n) rest = λ h. (Some (number n), rest, refl, h)
 back_three s d Plain token.Nan rest = λ h. (Some nan, rest, refl, h)
-back_three s d Plain other rest = weaken (at_after (at Three s d Plain) other) (AfterSite s Plain d) (ThreeOf s Plain d) other rest (λ u h. (None, u, refl, h)) (back_after s d Plain other rest Three)
+back_three s d Plain other rest =
+    weaken (at_after (at Three s d Plain) other) (AfterSite s Plain d) (ThreeOf s Plain d) other rest
+    (λ u h. (None, u, refl, h)) (back_after s d Plain other rest Three)
 back_three s d Z t rest = nothing (advance_by Three (at Three s d Z) t) t rest
 back_three s d M t rest = nothing (advance_by Three (at Three s d M) t) t rest
 back_three s d Zm (token.Number n) rest = λ h. (number n, rest, refl, h)
@@ -274,15 +298,19 @@ back_three s d Zm other rest = tt
 
 -- ---- bodies
 
-open_point : (d : ℕ) (tag : Tag) (rest : List Move) → PositionOf site.Point tag d rest → SimpleOf type.Point tag d (move token.Open Mark ∷ rest)
+open_point : (d : ℕ) (tag : Tag) (rest : List Move) → PositionOf site.Point tag d rest →
+    SimpleOf type.Point tag d (move token.Open Mark ∷ rest)
 open_point d tag rest (p, r, e, (r₂, e₂, up)) = (point p, r₂, refl, put _ (e ∙ ap (position_then PointY p) e₂), up)
 
-open_line : (d : ℕ) (tag : Tag) (rest : List Move) → PositionOf (site.Line Alone) tag d rest → SimpleOf type.LineString tag d (move token.Open Mark ∷ rest)
+open_line : (d : ℕ) (tag : Tag) (rest : List Move) → PositionOf (site.Line Alone) tag d rest →
+    SimpleOf type.LineString tag d (move token.Open Mark ∷ rest)
 open_line d tag rest (p, r, e, (ps, r₂, e₂, up)) = (line (along p ps), r₂, refl, put _ (e ∙ ap (position_then WayY p) e₂), up)
 
-open_polygon : (d : ℕ) (tag : Tag) (rest : List Move) → ItemOf (site.Polygon Alone Shell) tag d rest → SimpleOf type.Polygon tag d (move token.Open Group ∷ rest)
+open_polygon : (d : ℕ) (tag : Tag) (rest : List Move) → ItemOf (site.Polygon Alone Shell) tag d rest →
+    SimpleOf type.Polygon tag d (move token.Open Group ∷ rest)
 open_polygon d tag rest (inl (r, e, (n, r₂, e₂, up))) = (polygon (hollow n), r₂, refl, put _ (e ∙ put _ e₂), up)
-open_polygon d tag rest (inr (p, ps, r, e, (ws, r₂, e₂, up))) = (polygon (area p ps ws), r₂, refl, put _ (e ∙ ap (along_then EndShell p ps) e₂), up)
+open_polygon d tag rest (inr (p, ps, r, e, (ws, r₂, e₂, up))) =
+    (polygon (area p ps ws), r₂, refl, put _ (e ∙ ap (along_then EndShell p ps) e₂), up)
 
 open_collection : (d : ℕ) (rest : List Move) → StartOf (suc d) rest → CollectionOf (suc d) (move token.Open Mark ∷ rest)
 open_collection d rest (g, r, e, (gs, r₂, e₂, up)) = (g, gs, r₂, put _ (e ∙ ap (geometry_then g (suc d)) e₂), up)
@@ -299,13 +327,16 @@ back_body type.Polygon s d tag token.Empty rest step = λ h. (polygon empty_surf
 back_body type.Polygon s d tag token.Open rest step = λ h. open_polygon d tag rest h
 back_body type.Polygon s d tag other rest step = tt
 back_body type.MultiPoint s d tag token.Empty rest step = λ h. (points empty_many, rest, refl, refl, is_ended d tag rest h)
-back_body type.MultiPoint s d tag token.Open rest step = λ (x, r, e, (xs, r₂, e₂, up)). (points (several x xs), r₂, refl, put _ (e ∙ ap (element_then x) e₂), up)
+back_body type.MultiPoint s d tag token.Open rest step =
+    λ (x, r, e, (xs, r₂, e₂, up)). (points (several x xs), r₂, refl, put _ (e ∙ ap (element_then x) e₂), up)
 back_body type.MultiPoint s d tag other rest step = tt
 back_body type.MultiLineString s d tag token.Empty rest step = λ h. (lines empty_many, rest, refl, refl, is_ended d tag rest h)
-back_body type.MultiLineString s d tag token.Open rest step = λ (x, r, e, (xs, r₂, e₂, up)). (lines (several x xs), r₂, refl, put _ (e ∙ ap (way_then EndLine x) e₂), up)
+back_body type.MultiLineString s d tag token.Open rest step =
+    λ (x, r, e, (xs, r₂, e₂, up)). (lines (several x xs), r₂, refl, put _ (e ∙ ap (way_then EndLine x) e₂), up)
 back_body type.MultiLineString s d tag other rest step = tt
 back_body type.MultiPolygon s d tag token.Empty rest step = λ h. (polygons empty_many, rest, refl, refl, is_ended d tag rest h)
-back_body type.MultiPolygon s d tag token.Open rest step = λ (x, r, e, (xs, r₂, e₂, up)). (polygons (several x xs), r₂, refl, put _ (e ∙ ap (surface_then Mark x) e₂), up)
+back_body type.MultiPolygon s d tag token.Open rest step =
+    λ (x, r, e, (xs, r₂, e₂, up)). (polygons (several x xs), r₂, refl, put _ (e ∙ ap (surface_then Mark x) e₂), up)
 back_body type.MultiPolygon s d tag other rest step = tt
 back_body type.GeometryCollection s zero tag t rest step = nothing (at_body (at step s zero tag) type.GeometryCollection t) t rest
 back_body type.GeometryCollection s (suc d) tag token.Empty rest step = λ h. inl (rest, refl, is_ended d tag rest h)
@@ -321,7 +352,8 @@ back_tagged kind s d tag other rest =
 
 -- ---- geometries
 
-with_body : (kind : TypeWord) (w : Writing) (d : ℕ) (rest : List Move) → SimpleOf kind (tag_of_writing w) d rest → StartOf d (head_then Head kind w rest)
+with_body : (kind : TypeWord) (w : Writing) (d : ℕ) (rest : List Move) → SimpleOf kind (tag_of_writing w) d rest →
+    StartOf d (head_then Head kind w rest)
 with_body kind w d rest (b, r, k, e, up) = (simple w b, r, rw (← k) (head_put Head (type_of_simple b) w e), up)
   where
     head_put : (role : Role) (kind : TypeWord) (w : Writing) {a b : List Move} → a ≡ b → head_then role kind w a ≡ head_then role kind w b
@@ -333,7 +365,8 @@ with_collection w d rest (inl (r, e, up)) = (empty_collection w, r, ap (head_the
 with_collection w d rest (inr (g, gs, r, e, up)) = (collection w g gs, r, ap (head_then (depth_role d) type.GeometryCollection w) e, up)
 
 -- A type word without a tag, and then a tag or a body.
-with_tag : (kind : TypeWord) (d : ℕ) (rest : List Move) → ((w : Writing) (r : List Move) → SimpleOf kind (tag_of_writing w) d r → StartOf d (head_then Head kind w r)) →
+with_tag : (kind : TypeWord) (d : ℕ) (rest : List Move) →
+    ((w : Writing) (r : List Move) → SimpleOf kind (tag_of_writing w) d r → StartOf d (head_then Head kind w r)) →
     ((t : Tag) × (r : List Move) × (rest ≡ move (token.Tag t) Mark ∷ r) × SimpleOf kind t d r) ⊎ SimpleOf kind Plain d rest →
     StartOf d (move (token.Type kind Plain) Head ∷ rest)
 with_tag kind d rest make (inl (t, r, e, h)) = let (g, r₂, e₂, up) = make (apart t) r h in (g, r₂, put _ e ∙ e₂, up)

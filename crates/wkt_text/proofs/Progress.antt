@@ -48,7 +48,8 @@ token_moves scale (b ∷ rest) = inr (elim (cases_Bool (is_ascii_alphabetic b)) 
   ]
 ])
 
-pub lexeme_moves : (scale : ℕ) (bytes : List ℕ) (from : ℕ) → ((lexeme_at scale bytes from).token ≡ token.End) ⊎ (from < (lexeme_at scale bytes from).«end»)
+pub lexeme_moves : (scale : ℕ) (bytes : List ℕ) (from : ℕ) →
+    ((lexeme_at scale bytes from).token ≡ token.End) ⊎ (from < (lexeme_at scale bytes from).«end»)
 unfolding lexeme_at
 lexeme_moves scale bytes from = elim (token_moves scale (drop (place_of bytes from) bytes)) [
   | inl e ↦ inl e
@@ -79,7 +80,8 @@ taken_moves scale bytes from c c' b b' k = elim (lexeme_moves scale bytes from) 
 
 pub stands_push : (scale : ℕ) (bytes : List ℕ) (ts : List Token) (from at_place : ℕ) (t : Token) → Stands scale bytes from ts at_place →
     (lexeme_at scale bytes at_place).token ≡ t → Stands scale bytes from (ts ++ t ∷ []) (lexeme_at scale bytes at_place).«end»
-stands_push scale bytes [] from at_place t h e = (ap (λ u. (lexeme_at scale bytes u).token) h ∙ e, ap (λ u. (lexeme_at scale bytes u).«end») h)
+stands_push scale bytes [] from at_place t h e =
+    (ap (λ u. (lexeme_at scale bytes u).token) h ∙ e, ap (λ u. (lexeme_at scale bytes u).«end») h)
 stands_push scale bytes (x ∷ ts) from at_place t (h, k) e = (h, stands_push scale bytes ts _ at_place t k e)
 
 -- How far the reader has come.
@@ -106,7 +108,8 @@ so_far_reads scale bytes from place c b s done =
     record { geometry = g; stands = subst (λ u. Stands scale bytes from u place) same s.stands; kept = kept; says = says }
 
 -- What is built so far is counted.
-pub so_far_counted : (scale : ℕ) (bytes : List ℕ) (from place : ℕ) (c : Control) (b : Build) → SoFar scale bytes from place c b → IsCounted b
+pub so_far_counted : (scale : ℕ) (bytes : List ℕ) (from place : ℕ) (c : Control) (b : Build) → SoFar scale bytes from place c b →
+    IsCounted b
 so_far_counted scale bytes from place c b s = built_counted s.taken.front b s.taken.kept
 
 -- A type word that is nested too deep is never taken.
@@ -119,17 +122,27 @@ deep_stops b b' r t e h = err_ok (ap (λ u. act b u t) (sym e) ∙ h)
 
 -- ---- one reading
 
--- What stands from a place on: of two lists of tokens one goes on where the other ends.
-pub stands_compare : (scale : ℕ) (bytes : List ℕ) (ts us : List Token) (from p q : ℕ) → Stands scale bytes from ts p → Stands scale bytes from us q →
-    ((more : List Token) × (us ≡ ts ++ more) × Stands scale bytes p more q) ⊎ ((more : List Token) × (ts ≡ us ++ more) × Stands scale bytes q more p)
-stands_compare scale bytes [] us from p q h k = inl (us, refl, subst (λ u. Stands scale bytes u us q) h k)
-stands_compare scale bytes (t ∷ ts) [] from p q h k = inr (t ∷ ts, refl, subst (λ u. Stands scale bytes u (t ∷ ts) p) k h)
-stands_compare scale bytes (t ∷ ts) (u ∷ us) from p q (e, h) (f, k) = go (stands_compare scale bytes ts us _ p q h k)
-  where
-    go : ((more : List Token) × (us ≡ ts ++ more) × Stands scale bytes p more q) ⊎ ((more : List Token) × (ts ≡ us ++ more) × Stands scale bytes q more p) →
-        ((more : List Token) × (u ∷ us ≡ (t ∷ ts) ++ more) × Stands scale bytes p more q) ⊎ ((more : List Token) × (t ∷ ts ≡ (u ∷ us) ++ more) × Stands scale bytes q more p)
-    go (inl (more, g, m)) = inl (more, (λ i. (sym f ∙ e) i ∷ g i), m)
-    go (inr (more, g, m)) = inr (more, (λ i. (sym e ∙ f) i ∷ g i), m)
+-- A list of tokens goes on where another ends.
+pub record GoesOn (scale : ℕ) (bytes : List ℕ) (ts us : List Token) (p q : ℕ) : Type 0 where
+  pub more : List Token
+  pub joined : us ≡ ts ++ more
+  pub stands : Stands scale bytes p more q
+
+longer : (scale : ℕ) (bytes : List ℕ) (t u : Token) (ts us : List Token) (p q : ℕ) → u ≡ t → GoesOn scale bytes ts us p q →
+    GoesOn scale bytes (t ∷ ts) (u ∷ us) p q
+longer scale bytes t u ts us p q e g = record { more = g.more; joined = λ i. e i ∷ g.joined i; stands = g.stands }
+
+-- Of two lists of tokens that stand from a place on, one goes on where the other ends.
+pub stands_compare : (scale : ℕ) (bytes : List ℕ) (ts us : List Token) (from p q : ℕ) → Stands scale bytes from ts p →
+    Stands scale bytes from us q → GoesOn scale bytes ts us p q ⊎ GoesOn scale bytes us ts q p
+stands_compare scale bytes [] us from p q h k =
+    inl (record { more = us; joined = refl; stands = subst (λ u. Stands scale bytes u us q) h k })
+stands_compare scale bytes (t ∷ ts) [] from p q h k =
+    inr (record { more = t ∷ ts; joined = refl; stands = subst (λ u. Stands scale bytes u (t ∷ ts) p) k h })
+stands_compare scale bytes (t ∷ ts) (u ∷ us) from p q (e, h) (f, k) = elim (stands_compare scale bytes ts us _ p q h k) [
+  | inl on ↦ inl (longer scale bytes t u ts us p q (sym f ∙ e) on)
+  | inr on ↦ inr (longer scale bytes u t us ts q p (sym e ∙ f) on)
+]
 
 -- What is read was taken to its end, and this figure was built.
 pub record Whole (ts : List Token) (figure : Figure) : Type 0 where
@@ -209,17 +222,17 @@ one_reading scale bytes from f g p q r s = go (stands_compare scale bytes ts us 
     ends_at [] a b e h = h
     ends_at (t ∷ more) a b e h = absurd (cc)
 
-    go : ((more : List Token) × (us ≡ ts ++ more) × Stands scale bytes p more q) ⊎ ((more : List Token) × (ts ≡ us ++ more) × Stands scale bytes q more p) →
-        (f ≡ g) × (p ≡ q)
-    go (inl (more, e, h)) =
-        let none = whole_ends ts more f v.control v.build w (subst (λ u. Taken u v.control v.build) e v.taken) in
-        (by_tokens (sym (e ∙ ap (λ u. ts ++ u) none ∙ append-nil ts)), ends_at more p q none h)
-    go (inr (more, e, h)) =
-        let none = whole_ends us more g w.control w.build v (subst (λ u. Taken u w.control w.build) e w.taken) in
-        (by_tokens (e ∙ ap (λ u. us ++ u) none ∙ append-nil us), sym (ends_at more q p none h))
+    go : GoesOn scale bytes ts us p q ⊎ GoesOn scale bytes us ts q p → (f ≡ g) × (p ≡ q)
+    go (inl on) =
+        let none = whole_ends ts on.more f v.control v.build w (subst (λ u. Taken u v.control v.build) on.joined v.taken) in
+        (by_tokens (sym (on.joined ∙ ap (λ u. ts ++ u) none ∙ append-nil ts)), ends_at on.more p q none on.stands)
+    go (inr on) =
+        let none = whole_ends us on.more g w.control w.build v (subst (λ u. Taken u w.control w.build) on.joined w.taken) in
+        (by_tokens (on.joined ∙ ap (λ u. us ++ u) none ∙ append-nil us), sym (ends_at on.more q p none on.stands))
 
 -- Where the reader stops before the end, nothing is read.
-pub stopped_unread : (scale : ℕ) (bytes : List ℕ) (from place : ℕ) (c : Control) (b : Build) (kind : WktKind) → SoFar scale bytes from place c b →
+pub stopped_unread : (scale : ℕ) (bytes : List ℕ) (from place : ℕ) (c : Control) (b : Build) (kind : WktKind) →
+    SoFar scale bytes from place c b →
     (c.step ≡ Done → ⊥) → IsFaulty c b (lexeme_at scale bytes place).token kind → (figure : Figure) (last : ℕ) →
     Reads scale bytes from figure last → ⊥
 stopped_unread scale bytes from place c b kind s not_done faulty figure last r =
@@ -243,16 +256,16 @@ stopped_unread scale bytes from place c b kind s not_done faulty figure last r =
         (subst (λ u. IsRight (s.tokens ++ u ∷ [])) (sym f)
         (right_front s.tokens more t (subst IsRight e (taken_right ts w.control w.build w.taken))))
 
-    go : ((more : List Token) × (ts ≡ s.tokens ++ more) × Stands scale bytes place more last)
-        ⊎ ((more : List Token) × (s.tokens ≡ ts ++ more) × Stands scale bytes last more place) → ⊥
-    go (inl (more, e, h)) = goes_on more e h
-    go (inr (more, e, h)) =
-        let none = whole_ends ts more figure c b w (subst (λ u. Taken u c b) e s.taken) in
-        same_tokens (sym (e ∙ ap (λ u. ts ++ u) none ∙ append-nil ts))
+    go : GoesOn scale bytes s.tokens ts place last ⊎ GoesOn scale bytes ts s.tokens last place → ⊥
+    go (inl on) = goes_on on.more on.joined on.stands
+    go (inr on) =
+        let none = whole_ends ts on.more figure c b w (subst (λ u. Taken u c b) on.joined s.taken) in
+        same_tokens (sym (on.joined ∙ ap (λ u. ts ++ u) none ∙ append-nil ts))
 
 pub so_far_fault : (scale : ℕ) (bytes : List ℕ) (from place : ℕ) (c : Control) (b : Build) (kind : WktKind) (start_place : ℕ) →
     (IsOnlyWhite bytes from → ⊥) → (c.step ≡ Done → ⊥) → SoFar scale bytes from place c b →
-    IsFaulty c b (lexeme_at scale bytes place).token kind → start_place ≡ (lexeme_at scale bytes place).start → FirstFault scale bytes from kind start_place
+    IsFaulty c b (lexeme_at scale bytes place).token kind → start_place ≡ (lexeme_at scale bytes place).start →
+    FirstFault scale bytes from kind start_place
 so_far_fault scale bytes from place c b kind start_place some not_done s f e = record {
   some = some;
   unread = stopped_unread scale bytes from place c b kind s not_done f;

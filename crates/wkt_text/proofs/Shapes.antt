@@ -115,11 +115,17 @@ good_x b z h n c = record {
   most = omega arith;
 }
 
+-- The count, where it is known what was begun.
+few_with : (b : Build) (o : Option ℤ) → b.x ≡ o → IsBuilt b →
+    (((positions_of b.figure + length b.way) + shell_length b.shell) + sum_by length b.holes) + begun o ≤ b.count
+few_with b o e h =
+    subst (λ o. (((positions_of b.figure + length b.way) + shell_length b.shell) + sum_by length b.holes) + begun o ≤ b.count) e h.few
+
 good_point : (b : Build) (o : Option ℤ) (z : ℤ) → b.x ≡ o → IsBuilt b → IsNear z → IsBuilt (with_point b o z)
 good_point b None z e h n = h
 good_point b (Some x) z e h n =
     let near : IsNear x = subst IsXNear e h.x in
-    let few = subst (λ o. (((positions_of b.figure + length b.way) + shell_length b.shell) + sum_by length b.holes) + begun o ≤ b.count) e h.few in
+    let few = few_with b (Some x) e h in
     record {
       points = All-push IsInLimit b.figure.points _ h.points (near_point x z near n);
       lines = h.lines;
@@ -136,7 +142,7 @@ good_position : (b : Build) (o : Option ℤ) (z : ℤ) → b.x ≡ o → IsBuilt
 good_position b None z e h n = h
 good_position b (Some x) z e h n =
     let near : IsNear x = subst IsXNear e h.x in
-    let few = subst (λ o. (((positions_of b.figure + length b.way) + shell_length b.shell) + sum_by length b.holes) + begun o ≤ b.count) e h.few in
+    let few = few_with b (Some x) e h in
     record {
       points = h.points;
       lines = h.lines;
@@ -214,7 +220,8 @@ good_area : (b : Build) (o : Option (List Pt)) → b.shell ≡ o → IsBuilt b �
 good_area b None e h = h
 good_area b (Some ring) e h =
     let shaped : IsRingShaped ring = subst IsShellShaped e h.shell in
-    let few = subst (λ o. (((positions_of b.figure + length b.way) + shell_length o) + sum_by length b.holes) + begun b.x ≤ b.count) e h.few in
+    let few =
+    subst (λ o. (((positions_of b.figure + length b.way) + shell_length o) + sum_by length b.holes) + begun b.x ≤ b.count) e h.few in
     let more : Area = record { shell = ring; holes = b.holes; group = b.group } in
     record {
       points = h.points;
@@ -304,10 +311,12 @@ token_near : (scale : ℕ) (text : List ℕ) → IsTokenNear (token_in scale tex
 token_near scale [] = tt
 token_near scale (b ∷ rest) =
     pair_if (is_ascii_alphabetic b) (word_in (b ∷ rest)) _ (word_near (take_while is_ascii_alphabetic (b ∷ rest)))
-    (pair_if (is_number_start b) (number_in scale (b ∷ rest)) (mark b, 1) (numeral_near scale (take_while is_numeric (b ∷ rest))) (mark_near b))
+    (pair_if (is_number_start b) (number_in scale (b ∷ rest)) (mark b, 1)
+    (numeral_near scale (take_while is_numeric (b ∷ rest))) (mark_near b))
   where
     word_near : (word : List ℕ) → IsTokenNear (word_token word)
-    word_near word = near_if (is_name word (codes "EMPTY")) _ _ tt (near_if (is_name word (codes "NAN")) _ _ tt (type_near (type_of word) (tag_of word)))
+    word_near word =
+        near_if (is_name word (codes "EMPTY")) _ _ tt (near_if (is_name word (codes "NAN")) _ _ tt (type_near (type_of word) (tag_of word)))
 
 stands_near : (scale : ℕ) (bytes : List ℕ) (ts : List Token) (from last : ℕ) → Stands scale bytes from ts last → AllTokens IsTokenNear ts
 unfolding lexeme_at
@@ -316,9 +325,11 @@ stands_near scale bytes (t ∷ ts) from last (e, h) =
     (subst IsTokenNear e (token_near scale (drop (place_of bytes from) bytes)), stands_near scale bytes ts _ last h)
 
 -- The figure that a text says is well shaped.
-pub reads_shaped : (scale : ℕ) (bytes : List ℕ) (from : ℕ) (figure : Figure) (last : ℕ) → Reads scale bytes from figure last → IsWellShaped figure
+pub reads_shaped : (scale : ℕ) (bytes : List ℕ) (from : ℕ) (figure : Figure) (last : ℕ) → Reads scale bytes from figure last →
+    IsWellShaped figure
 reads_shaped scale bytes from figure last r =
     let w = reads_whole scale bytes from figure last r in
-    let near = subst (AllTokens IsTokenNear) (sym w.taken.tokens) (stands_near scale bytes (tokens_of (spelling r.geometry)) from last r.stands) in
+    let near =
+    subst (AllTokens IsTokenNear) (sym w.taken.tokens) (stands_near scale bytes (tokens_of (spelling r.geometry)) from last r.stands) in
     let built = kept_along IsBuilt IsTokenNear good_act w.taken.front start_build w.build built_start near w.taken.kept in
     subst IsWellShaped (sym w.says) (built_shaped w.build built)

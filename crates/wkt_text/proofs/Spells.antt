@@ -49,18 +49,21 @@ run_three_plain s d ((token.Comma, r) ∷ rest) h = h
 run_three_plain s d ((token.Close, r) ∷ rest) h = h
 run_three_plain s d ((other, r) ∷ rest) h = absurd (none-some _ h.1)
 
-run_further : (s : Site) (d : ℕ) (o : Option Ordinate) (rest : List Move) → Run (at After s d Plain) rest → Run (at Three s d Plain) (further_then o rest)
+run_further : (s : Site) (d : ℕ) (o : Option Ordinate) (rest : List Move) → Run (at After s d Plain) rest →
+    Run (at Three s d Plain) (further_then o rest)
 unfolding advance
 run_further s d None rest h = run_three_plain s d rest h
 run_further s d (Some (number n)) rest h = (at Full s d Plain, refl, run_full s d Plain rest h)
 run_further s d (Some nan) rest h = (at Full s d Plain, refl, run_full s d Plain rest h)
 
-run_last : (s : Site) (d : ℕ) (o : Ordinate) (rest : List Move) → Run (at After s d Zm) rest → Run (at Three s d Zm) (ordinate_then Demanded o rest)
+run_last : (s : Site) (d : ℕ) (o : Ordinate) (rest : List Move) → Run (at After s d Zm) rest →
+    Run (at Three s d Zm) (ordinate_then Demanded o rest)
 unfolding advance
 run_last s d (number n) rest h = (at Full s d Zm, refl, run_full s d Zm rest h)
 run_last s d nan rest h = (at Full s d Zm, refl, run_full s d Zm rest h)
 
-run_more : (s : Site) (d : ℕ) (tag : Tag) (m : More tag) (rest : List Move) → Run (at After s d tag) rest → Run (at Two s d tag) (more_then tag m rest)
+run_more : (s : Site) (d : ℕ) (tag : Tag) (m : More tag) (rest : List Move) → Run (at After s d tag) rest →
+    Run (at Two s d tag) (more_then tag m rest)
 unfolding advance
 run_more s d Plain None rest h = run_two_plain s d rest h
 run_more s d Plain (Some (number n, o)) rest h = (at Three s d Plain, refl, run_further s d o rest h)
@@ -107,32 +110,37 @@ run_ring many kind d tag p ps rest h =
     run_position (site.Ring many kind) d tag p _
     (run_others (position_then WayY) (site.Ring many kind) d tag First refl (run_position (site.Ring many kind) d tag) ps rest h)
 
-run_line_item : (d : ℕ) (tag : Tag) (w : Way tag) (rest : List Move) → Run (at After site.Lines d tag) rest → Run (at Item site.Lines d tag) (way_then EndLine w rest)
+run_line_item : (d : ℕ) (tag : Tag) (w : Way tag) (rest : List Move) → Run (at After site.Lines d tag) rest →
+    Run (at Item site.Lines d tag) (way_then EndLine w rest)
 unfolding advance
 run_line_item d tag empty_way rest h = (at After site.Lines d tag, refl, h)
 run_line_item d tag (along p ps) rest h = (at First (site.Line Member) d tag, refl, run_line Member d tag p ps rest h)
 
-run_hole_item : (many : Membership) (d : ℕ) (tag : Tag) (w : Way tag) (rest : List Move) → Run (at After (site.Polygon many Hole) d tag) rest →
+run_hole_item : (many : Membership) (d : ℕ) (tag : Tag) (w : Way tag) (rest : List Move) →
+    Run (at After (site.Polygon many Hole) d tag) rest →
     Run (at Item (site.Polygon many Hole) d tag) (way_then EndHole w rest)
 unfolding advance
 run_hole_item many d tag empty_way rest h = (at After (site.Polygon many Hole) d tag, refl, h)
 run_hole_item many d tag (along p ps) rest h = (at First (site.Ring many ring.Hole) d tag, refl, run_ring many ring.Hole d tag p ps rest h)
 
-run_gaps : (many : Membership) (d : ℕ) (tag : Tag) (n : ℕ) (rest : List Move) → Run (after_close (at After (site.Polygon many Hollow) d tag)) rest →
+run_gaps : (many : Membership) (d : ℕ) (tag : Tag) (n : ℕ) (rest : List Move) →
+    Run (after_close (at After (site.Polygon many Hollow) d tag)) rest →
     Run (at After (site.Polygon many Hollow) d tag) (gaps_then n (move token.Close Mark ∷ rest))
 unfolding advance
 run_gaps many d tag zero rest h = (after_close (at After (site.Polygon many Hollow) d tag), refl, h)
 run_gaps many d tag (suc n) rest h =
     (at Item (site.Polygon many Hollow) d tag, refl, (at After (site.Polygon many Hollow) d tag, refl, run_gaps many d tag n rest h))
 
-run_hollow : (many : Membership) (d : ℕ) (tag : Tag) (n : ℕ) (rest : List Move) → Run (after_close (at After (site.Polygon many Hollow) d tag)) rest →
+run_hollow : (many : Membership) (d : ℕ) (tag : Tag) (n : ℕ) (rest : List Move) →
+    Run (after_close (at After (site.Polygon many Hollow) d tag)) rest →
     Run (at Item (site.Polygon many Shell) d tag) (gap_then (gaps_then n (move token.Close Mark ∷ rest)))
 unfolding advance
 run_hollow many d tag n rest h = (at After (site.Polygon many Hollow) d tag, refl, run_gaps many d tag n rest h)
 
 run_area : (many : Membership) (d : ℕ) (tag : Tag) (p : Position tag) (ps : List (Position tag)) (ws : List (Way tag)) (rest : List Move) →
     Run (after_close (at After (site.Polygon many Hole) d tag)) rest →
-    Run (at Item (site.Polygon many Shell) d tag) (along_then EndShell p ps (others_then (way_then EndHole) ws (move token.Close EndArea ∷ rest)))
+    Run (at Item (site.Polygon many Shell) d tag)
+    (along_then EndShell p ps (others_then (way_then EndHole) ws (move token.Close EndArea ∷ rest)))
 unfolding advance
 run_area many d tag p ps ws rest h = (
   at First (site.Ring many ring.Shell) d tag,
@@ -152,7 +160,8 @@ run_element_item : (d : ℕ) (tag : Tag) (x : Element tag) (rest : List Move) �
     Run (at Item site.Points d tag) (element_then x rest)
 unfolding advance
 run_element_item d tag empty_element rest h = (at After site.Points d tag, refl, h)
-run_element_item d tag (bare p) rest h = (at Second site.Points d tag, refl, (at Two site.Points d tag, refl, run_more site.Points d tag p.more rest h))
+run_element_item d tag (bare p) rest h =
+    (at Second site.Points d tag, refl, (at Two site.Points d tag, refl, run_more site.Points d tag p.more rest h))
 run_element_item d tag (bracketed p) rest h =
     (at First site.Element d tag, refl, run_position site.Element d tag p _ (at After site.Points d tag, refl, h))
 
@@ -170,17 +179,21 @@ run_simple s d tag (polygon (hollow n)) rest h = (at Item (site.Polygon Alone Sh
 run_simple s d tag (polygon (area p ps ws)) rest h = (at Item (site.Polygon Alone Shell) d tag, refl, run_area Alone d tag p ps ws rest h)
 run_simple s d tag (points empty_many) rest h = (ended_at d tag, refl, h)
 run_simple s d tag (points (several x xs)) rest h =
-    (at Item site.Points d tag, refl, run_element_item d tag x _ (run_others element_then site.Points d tag Item refl (run_element_item d tag) xs rest h))
+    let others = run_others element_then site.Points d tag Item refl (run_element_item d tag) xs rest h in
+    (at Item site.Points d tag, refl, run_element_item d tag x _ others)
 run_simple s d tag (lines empty_many) rest h = (ended_at d tag, refl, h)
 run_simple s d tag (lines (several x xs)) rest h =
-    (at Item site.Lines d tag, refl, run_line_item d tag x _ (run_others (way_then EndLine) site.Lines d tag Item refl (run_line_item d tag) xs rest h))
+    let others = run_others (way_then EndLine) site.Lines d tag Item refl (run_line_item d tag) xs rest h in
+    (at Item site.Lines d tag, refl, run_line_item d tag x _ others)
 run_simple s d tag (polygons empty_many) rest h = (ended_at d tag, refl, h)
 run_simple s d tag (polygons (several x xs)) rest h =
-    (at Item site.Polygons d tag, refl, run_surface_item d tag x _ (run_others (surface_then Mark) site.Polygons d tag Item refl (run_surface_item d tag) xs rest h))
+    let others = run_others (surface_then Mark) site.Polygons d tag Item refl (run_surface_item d tag) xs rest h in
+    (at Item site.Polygons d tag, refl, run_surface_item d tag x _ others)
 
 -- ---- type words and tags
 
-same_opened : (kind : TypeWord) (s : Site) (d : ℕ) (tag : Tag) → opened (at (Tagged kind) s d tag) kind ≡ opened (at (Body kind) s d tag) kind
+same_opened : (kind : TypeWord) (s : Site) (d : ℕ) (tag : Tag) →
+    opened (at (Tagged kind) s d tag) kind ≡ opened (at (Body kind) s d tag) kind
 same_opened type.Point s d tag = refl
 same_opened type.LineString s d tag = refl
 same_opened type.Polygon s d tag = refl
@@ -189,7 +202,8 @@ same_opened type.MultiLineString s d tag = refl
 same_opened type.MultiPolygon s d tag = refl
 same_opened type.GeometryCollection s d tag = refl
 
-run_tagged : (kind : TypeWord) (s : Site) (d : ℕ) (tag : Tag) (rest : List Move) → Run (at (Body kind) s d tag) rest → Run (at (Tagged kind) s d tag) rest
+run_tagged : (kind : TypeWord) (s : Site) (d : ℕ) (tag : Tag) (rest : List Move) → Run (at (Body kind) s d tag) rest →
+    Run (at (Tagged kind) s d tag) rest
 unfolding advance
 run_tagged kind s d tag [] e = absurd (body_done kind e)
 run_tagged kind s d tag ((token.Open, r) ∷ rest) (c', e, h) = (c', ap Some (same_opened kind s d tag) ∙ e, h)
@@ -200,14 +214,17 @@ run_tagged kind s d tag ((other, r) ∷ rest) h = absurd (none-some _ h.1)
 abbrev Leads : Site → ℕ → TypeWord → Role → ℕ → Type 0
 Leads s d kind role inside = (before tag : Tag) → started (at Start s d before) kind tag ≡ (role, at (step_tagged kind tag) s inside tag)
 
-run_head : (s : Site) (d inside : ℕ) (before : Tag) (kind : TypeWord) (role : Role) (w : Writing) (rest : List Move) → Leads s d kind role inside →
+run_head : (s : Site) (d inside : ℕ) (before : Tag) (kind : TypeWord) (role : Role) (w : Writing) (rest : List Move) →
+    Leads s d kind role inside →
     Run (at (Body kind) s inside (tag_of_writing w)) rest → Run (at Start s d before) (head_then role kind w rest)
 unfolding advance
-run_head s d inside before kind role (joined Plain) rest l h = (at (Tagged kind) s inside Plain, ap Some (l before Plain), run_tagged kind s inside Plain rest h)
+run_head s d inside before kind role (joined Plain) rest l h =
+    (at (Tagged kind) s inside Plain, ap Some (l before Plain), run_tagged kind s inside Plain rest h)
 run_head s d inside before kind role (joined Z) rest l h = (at (Body kind) s inside Z, ap Some (l before Z), h)
 run_head s d inside before kind role (joined M) rest l h = (at (Body kind) s inside M, ap Some (l before M), h)
 run_head s d inside before kind role (joined Zm) rest l h = (at (Body kind) s inside Zm, ap Some (l before Zm), h)
-run_head s d inside before kind role (apart t) rest l h = (at (Tagged kind) s inside Plain, ap Some (l before Plain), (at (Body kind) s inside t, refl, h))
+run_head s d inside before kind role (apart t) rest l h =
+    (at (Tagged kind) s inside Plain, ap Some (l before Plain), (at (Body kind) s inside t, refl, h))
 
 leads_simple : (s : Site) (d : ℕ) {tag : Tag} (b : Simple tag) → Leads s d (type_of_simple b) Head d
 leads_simple s d empty_point before tag = refl
@@ -226,9 +243,11 @@ mutual
   run_geometry : (g : Geometry) (s : Site) (d : ℕ) (before : Tag) (rest : List Move) → ((tag : Tag) → Run (ended_at d tag) rest) →
       Run (at Start s d before) (geometry_then g d rest)
   run_geometry (simple w b) s d before rest h =
-      run_head s d d before (type_of_simple b) Head w _ (leads_simple s d b) (run_simple s d (tag_of_writing w) b rest (h (tag_of_writing w)))
+      run_head s d d before (type_of_simple b) Head w _ (leads_simple s d b)
+      (run_simple s d (tag_of_writing w) b rest (h (tag_of_writing w)))
   run_geometry (empty_collection w) s d before rest h =
-      run_head s d (suc d) before type.GeometryCollection (depth_role d) w _ (λ b t. refl) (ended_at d (tag_of_writing w), refl, h (tag_of_writing w))
+      run_head s d (suc d) before type.GeometryCollection (depth_role d) w _ (λ b t. refl)
+      (ended_at d (tag_of_writing w), refl, h (tag_of_writing w))
   run_geometry (collection w g gs) s d before rest h =
       run_head s d (suc d) before type.GeometryCollection (depth_role d) w _ (λ b t. refl) (
         at Start site.Top (suc d) (tag_of_writing w),

@@ -54,16 +54,17 @@ module _ (scale : ℕ) (text : List ℕ) (few : length text ≤ most_bytes) (nea
 
   pub formed : (m x w f : List ℕ) → is_formed text ≡ true → list_all is_ascii_digit (w ++ f) ≡ true → length w + length f ≤ most_bytes →
       m ≡ mantissa (unsigned text) → x ≡ after_mantissa (unsigned text) → w ≡ whole_part m → f ≡ fraction_part m →
-      judged (is_minus text) (kept_value cap (w ++ f)
-      (length w + length f - (down_of (is_exponent_minus x) (capped 1000 (exponent_size x)) (length f) - up_of (is_exponent_minus x) (capped 1000 (exponent_size x)) scale))
-      (up_of (is_exponent_minus x) (capped 1000 (exponent_size x)) scale - down_of (is_exponent_minus x) (capped 1000 (exponent_size x)) (length f)))
+      let up = up_of (is_exponent_minus x) (capped 1000 (exponent_size x)) scale in
+      let down = down_of (is_exponent_minus x) (capped 1000 (exponent_size x)) (length f) in
+      judged (is_minus text) (kept_value cap (w ++ f) (length w + length f - (down - up)) (up - down))
       ≡ numeral_of scale text
   formed m x w f h digits short e₁ e₂ e₃ e₄ =
       let minus = is_exponent_minus x in
       let size = exponent_size x in
       let l : length w + length f ≡ length (w ++ f) = sym (length-append w f) in
-      ap (λ n. judged (is_minus text) (kept_value cap (w ++ f) (n - (down_of minus (capped 1000 size) (length f) - up_of minus (capped 1000 size) scale))
-      (up_of minus (capped 1000 size) scale - down_of minus (capped 1000 size) (length f)))) l
+      let up = up_of minus (capped 1000 size) scale in
+      let down = down_of minus (capped 1000 size) (length f) in
+      ap (λ n. judged (is_minus text) (kept_value cap (w ++ f) (n - (down - up)) (up - down))) l
       ∙ ap (judged (is_minus text)) (kept_far cap minus (w ++ f) size (length f) scale (omega arith) (omega arith) (omega arith) near)
       ∙ judged_kept (is_minus text) (w ++ f) (up_of minus size scale) (down_of minus size (length f)) digits
       ∙ rw (tested, h, e₃, e₄, e₁, e₂) refl

@@ -160,7 +160,8 @@ fn kept_value(whole: &[u8], fraction: &[u8], shift: Shift) -> Option<u32>
     requires few { length whole.now + length fraction.now ≤ most_bytes }
     requires whole { IsTrue (list_all is_ascii_digit whole.now) }
     requires fraction { IsTrue (list_all is_ascii_digit fraction.now) }
-    ensures value { result ≡ kept_value (limit + 1) (whole.now ++ fraction.now) (length whole.now + length fraction.now - shift.dropped) shift.zeros }
+    ensures value { result ≡ kept_value (limit + 1) (whole.now ++ fraction.now)
+        (length whole.now + length fraction.now - shift.dropped) shift.zeros }
 {
     let kept = (whole.len() + fraction.len()).saturating_sub(shift.dropped);
     let split = kept.min(whole.len());

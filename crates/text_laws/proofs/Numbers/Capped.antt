@@ -34,7 +34,8 @@ capped-read_on-more cap n text i within =
     rw (drop_more text i 0 within) (capped-read_on-min cap (n * 10 + (get_or text i 0 - 48)) (drop (i + 1) text))
 
 -- What holds of all that is left holds of what is left one step on.
-pub list_all-more : (p : ℕ → Bool) (text : List ℕ) (i : ℕ) → i < length text → IsTrue (list_all p (drop i text)) → IsTrue (list_all p (drop (i + 1) text))
+pub list_all-more : (p : ℕ → Bool) (text : List ℕ) (i : ℕ) → i < length text → IsTrue (list_all p (drop i text)) →
+    IsTrue (list_all p (drop (i + 1) text))
 list_all-more p text i within h = (and_parts (p (get_or text i 0)) _ (rw (drop_more text i 0 within) at h)).1
 
 pub ten_pos : (k : ℕ) → 0 < 10 ^ k

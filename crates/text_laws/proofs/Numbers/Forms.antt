@@ -7,7 +7,8 @@ use Rattle.std.specs.Char.{is_ascii_digit}
 use Rattle.text_laws.specs.Numbers.{unsigned, mantissa, after_mantissa, whole_part, fraction_part, is_formed, is_mantissa, is_exponent}
 
 -- The digits before and after the point.
-pub digits_both : (w f : List ℕ) (b : Bool) → list_all is_ascii_digit w ≡ true → (list_all is_ascii_digit f && b) ≡ true → list_all is_ascii_digit (w ++ f) ≡ true
+pub digits_both : (w f : List ℕ) (b : Bool) → list_all is_ascii_digit w ≡ true → (list_all is_ascii_digit f && b) ≡ true →
+    list_all is_ascii_digit (w ++ f) ≡ true
 digits_both w f b h k = rw (list_all-append is_ascii_digit w f, h, (and_parts (list_all is_ascii_digit f) b k).0) refl
 
 -- A text whose parts are those of a number has its form.

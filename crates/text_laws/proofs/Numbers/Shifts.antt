@@ -1,5 +1,5 @@
 -- An exponent that is far enough moves the point past all digits.
-use Rattle.std.proofs.Common.{◌≡◌, ℕ, zero, suc, ◌+◌, ◌-◌, ◌*◌, ◌^◌, ◌<◌, ◌≤◌, Bool, true, false, cond, List, inl, inr, Some, None, length, take, drop, refl, sym, ◌∙◌, ap, arith}
+use Rattle.std.proofs.Common.{◌≡◌, ℕ, zero, suc, ◌+◌, ◌-◌, ◌*◌, ◌^◌, ◌<◌, ◌≤◌, Bool, true, false, cond, List, inl, inr, Some, None, length, take, drop, refl, sym, ◌∙◌, ap, arith, Option}
 use Rattle.std.proofs.lemmas.Bool.{cases_lt}
 use Rattle.std.proofs.lemmas.Nat.{pow-add, mul-le}
 use Rattle.std.proofs.Math.Nat.{zero-mul, mul_left_comm}
@@ -24,10 +24,15 @@ far_zeros : (cap n j k : ℕ) → cap ≤ 10000000 → 7 ≤ j → 7 ≤ k → c
 far_zeros cap zero j k small p q = rw (zero-mul (10 ^ j), zero-mul (10 ^ k)) refl
 far_zeros cap (suc n) j k small p q = far_capped cap (suc n) j small (omega arith) p ∙ sym (far_capped cap (suc n) k small (omega arith) q)
 
-kept_farther : (cap : ℕ) (minus : Bool) (digits : List ℕ) (size places scale : ℕ) → cap ≤ 10000000 → length digits ≤ 64 → places ≤ 64 → scale ≤ 100 → 1000 ≤ size →
-    kept_value cap digits (length digits - (down_of minus (capped 1000 size) places - up_of minus (capped 1000 size) scale))
-    (up_of minus (capped 1000 size) scale - down_of minus (capped 1000 size) places)
-    ≡ kept_value cap digits (length digits - (down_of minus size places - up_of minus size scale)) (up_of minus size scale - down_of minus size places)
+-- The value of digits under an exponent of this sign and size and a scale, with so many digits after the point.
+abbrev pub shifted : ℕ → Bool → List ℕ → ℕ → ℕ → ℕ → Option ℕ
+shifted cap minus digits size places scale =
+    kept_value cap digits (length digits - (down_of minus size places - up_of minus size scale))
+    (up_of minus size scale - down_of minus size places)
+
+kept_farther : (cap : ℕ) (minus : Bool) (digits : List ℕ) (size places scale : ℕ) → cap ≤ 10000000 → length digits ≤ 500 →
+    places ≤ 500 → scale ≤ 100 → 1000 ≤ size →
+    shifted cap minus digits (capped 1000 size) places scale ≡ shifted cap minus digits size places scale
 kept_farther cap false digits size places scale small h f s above =
     let e : capped 1000 size ≡ 1000 = capped_above 1000 size above in
     let a : places - (1000 + scale) ≡ 0 = omega arith in
@@ -43,10 +48,8 @@ kept_farther cap true digits size places scale small h f s above =
     rw (e, a, b, x, y) refl
 
 -- The shift that a cut exponent gives says the same.
-pub kept_far : (cap : ℕ) (minus : Bool) (digits : List ℕ) (size places scale : ℕ) → cap ≤ 10000000 → length digits ≤ 64 → places ≤ 64 → scale ≤ 100 →
-    kept_value cap digits (length digits - (down_of minus (capped 1000 size) places - up_of minus (capped 1000 size) scale))
-    (up_of minus (capped 1000 size) scale - down_of minus (capped 1000 size) places)
-    ≡ kept_value cap digits (length digits - (down_of minus size places - up_of minus size scale)) (up_of minus size scale - down_of minus size places)
+pub kept_far : (cap : ℕ) (minus : Bool) (digits : List ℕ) (size places scale : ℕ) → cap ≤ 10000000 → length digits ≤ 500 →
+    places ≤ 500 → scale ≤ 100 → shifted cap minus digits (capped 1000 size) places scale ≡ shifted cap minus digits size places scale
 kept_far cap minus digits size places scale small h f s = elim (cases_lt size 1000) [
   | inl below ↦ rw (capped_below 1000 size below) refl
   | inr above ↦ kept_farther cap minus digits size places scale small h f s above

@@ -25,6 +25,7 @@ returns c =
         c.exponent_of-minus.ensures.minus,
         c.exponent_of-minus.ensures.size,
       )
-          (formed c.args.scale.digits text (omega arith) (omega (arith, c.args.scale.within)) m x w f (formed_by text m x w f e₁ e₂ e₃ e₄ h k)
+          (formed c.args.scale.digits text (omega arith) (omega (arith, c.args.scale.within)) m x w f
+          (formed_by text m x w f e₁ e₂ e₃ e₄ h k)
           (digits_both w f (nat_lt 0 (length w + length f)) c.split_point.ensures.digits h) (omega arith) e₁ e₂ e₃ e₄);
     }

@@ -5,14 +5,15 @@ use Rattle.wkt_text.proofs.Progress.{so_far_more, so_far_stop, so_far_reads, so_
 use Rattle.wkt_text.proofs.read.read_geometry.Goals as goal
 
 pub take-requires-clause-counted : goal.take-requires-clause-counted
-take-requires-clause-counted c = so_far_counted c.args.scale.digits c.args.bytes.now c.args.at c.tokens.place c.tokens.control _ c.tokens.invariant.so_far
+take-requires-clause-counted c =
+    so_far_counted c.args.scale.digits c.args.bytes.now c.args.at c.tokens.place c.tokens.control _ c.tokens.invariant.so_far
 
 pub returns-in_err-control-clause-fault : goal.returns-in_err-control-clause-fault
 returns-in_err-control-clause-fault c =
     let p = err_from_is_err_and c.from_residual.result c.from_residual.ensures.1 in
     let h = rw c.next_token-lexeme.ensures.token at c.in_err-control.ensures.fault in
-    rw (p.1, p.2) (so_far_stop c.args.scale.digits c.args.bytes.now c.args.at c.tokens.place c.tokens.control c.tokens.build _ c.requires.some
-    (not_done_from c.tokens.control.step (sym c.is_done.ensures.done ∙ c.tokens-test.true)) c.tokens.invariant.so_far h)
+    rw (p.1, p.2) (so_far_stop c.args.scale.digits c.args.bytes.now c.args.at c.tokens.place c.tokens.control c.tokens.build _
+    c.requires.some (not_done_from c.tokens.control.step (sym c.is_done.ensures.done ∙ c.tokens-test.true)) c.tokens.invariant.so_far h)
 
 pub tokens-smaller : goal.tokens-smaller
 tokens-smaller c =

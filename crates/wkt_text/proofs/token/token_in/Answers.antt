@@ -4,7 +4,8 @@ use Rattle.wkt_text.specs.Tokens.{token_in, word_in}
 use Rattle.wkt_text.proofs.token.token_in.Goals as goal
 
 -- A text that begins with a letter begins with a word.
-token_in-letter : (scale : ℕ) (text : List ℕ) → 1 ≤ length text → is_ascii_alphabetic (get_or text 0 0) ≡ true → token_in scale text ≡ word_in text
+token_in-letter : (scale : ℕ) (text : List ℕ) → 1 ≤ length text → is_ascii_alphabetic (get_or text 0 0) ≡ true →
+    token_in scale text ≡ word_in text
 token_in-letter scale [] some h = absurd (omega arith)
 token_in-letter scale (b ∷ rest) some h = rw h refl
 
