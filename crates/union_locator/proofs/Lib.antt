@@ -1,3 +1,6 @@
 mod AtPoints
 mod MeetingPlaces
+mod NearEdges
+mod OnLines
+mod Sectors
 mod SingleAreas

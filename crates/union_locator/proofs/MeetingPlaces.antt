@@ -48,7 +48,7 @@ ascending_push xs k ascending below i h = go (cases_lt (i + 1) (length xs))
         below i 0 (omega (arith, size, h)))
 
 -- the row at a place, as an edge with its owner
-owned_at : (rows : List Edge) (k : ℕ) (row : Edge) → IsAtPlace rows k row → IsAtPlace (owned_edges rows) k (owned_edge row)
+pub owned_at : (rows : List Edge) (k : ℕ) (row : Edge) → IsAtPlace rows k row → IsAtPlace (owned_edges rows) k (owned_edge row)
 owned_at rows k row is = slice_get-map owned_edge rows k ∙ ap (option_map owned_edge) is
 
 module _ (w : Window) (rows : List Edge) (k : ℕ) (row : Edge) (is : IsAtPlace rows k row) (box : Window)

@@ -13,14 +13,10 @@ use Rattle.point_set.specs.declared.figure.Area.{Area}
 use Rattle.point_set.specs.declared.figure.Figure.{Figure}
 use Rattle.point_set.specs.Location.{location, is_not_exterior, is_covered, is_covered_by}
 use Rattle.point_set.specs.Validity.{IsAtPlace}
+use Rattle.figure_laws.proofs.Lists.Search.{any_left}
 use Rattle.union_locator.specs.Areas.{IsInAreaAt, IsInAreas}
 
 -- ---- one area more
--- some item of a list is one of a longer list
-any_before : {X : Type 0} (P : X → Type 0) (xs : List X) (y : X) → Any P xs → Any P (xs ++ y ∷ [])
-any_before P xs y a =
-    (a.0, a.1, (let below = a.2 in omega (arith, below, length_push xs y)), get_or_append_left xs (y ∷ []) a.1 a.0 a.2 ∙ a.3, a.4)
-
 -- what holds of the first k + 1
 more : {X : Type 0} (P : List X → Type 0) (xs : List X) (k : ℕ) (d : X) → k < length xs → P (take k xs ++ get_or xs k d ∷ [])
     → P (take (k + 1) xs)
@@ -75,11 +71,11 @@ module _ (areas : List Area) (p : Point) (k : ℕ) (below : k < length areas) (h
       by_loc : (loc : Loc) → IsInAreas (take k areas) p loc → IsInAreas (take (k + 1) areas) p loc
       by_loc Interior h =
           more (Any (λ area. location area p ≡ Interior)) areas k x.0 below
-          (any_before (λ area. location area p ≡ Interior) (take k areas) (get_or areas k x.0) h)
+          (any_left (λ area. location area p ≡ Interior) (take k areas) (get_or areas k x.0 ∷ []) h)
       by_loc Boundary h = (
         All-more (λ area. ¬ (location area p ≡ Interior)) areas k x.0 below h.0 not_in,
         more (Any (λ area. location area p ≡ Boundary)) areas k x.0 below
-        (any_before (λ area. location area p ≡ Boundary) (take k areas) (get_or areas k x.0) h.1),
+        (any_left (λ area. location area p ≡ Boundary) (take k areas) (get_or areas k x.0 ∷ []) h.1),
       )
       by_loc Exterior h = All-more (λ area. location area p ≡ Exterior) areas k x.0 below h (at_here x.0 ∙ e)
 

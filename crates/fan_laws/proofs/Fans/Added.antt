@@ -1,8 +1,7 @@
 -- The sections that an edge of a figure adds to a list are sections of the figure, one towards each end that isn't the point.
-use Rattle.std.proofs.Common.{◌≡◌, ℕ, suc, Bool, true, false, List, [], ◌∷◌, ◌++◌, length-append, ap, refl, sym, ◌∙◌, subst, arith}
+use Rattle.std.proofs.Common.{◌≡◌, ℕ, Bool, true, false, List, [], ◌∷◌, ◌++◌, ap, refl, sym, ◌∙◌, subst, arith}
 use Rattle.std.specs.List.{All, Any}
 use Rattle.std.proofs.lemmas.Bool.Decides.{not_from_Decides}
-use Rattle.std.proofs.lemmas.List.{get_or_append_left}
 use Rattle.std.proofs.lemmas.List.Elements.{All-append, All-cons, All-nil}
 use Rattle.im_matrix.specs.declared.Which.{Which}
 use Rattle.plane_laws.proofs.Points.Same.{Decides-is_same_point}
@@ -14,18 +13,9 @@ use Rattle.point_set.specs.declared.edge.Hand.TheVariants as hand
 use Rattle.point_set.specs.declared.figure.Figure.{Figure}
 use Rattle.point_set.specs.Edges.{OwnedEdge, edges_of_figure, HasHand, far_end, hand_of_way}
 use Rattle.point_set.specs.Validity.{IsAtPlace, IsOnEdge}
+use Rattle.figure_laws.proofs.Lists.Search.{any_left, any_right}
 use Rattle.fan_order.specs.declared.section.Section.{Section}
 use Rattle.fan_order.specs.Sections.{IsSectionOfEdge, IsSectionToward, IsSectionAt, AreToward, AreSectionsOf}
-
--- some item of the one list or of the other
-any_left : {X : Type 0} (P : X → Type 0) (xs ys : List X) → Any P xs → Any P (xs ++ ys)
-any_left {X} P xs ys h =
-    let below = h.2 in
-    (h.0, h.1, omega (arith, below, length-append {A = X}), get_or_append_left xs ys h.1 h.0 below ∙ h.3, h.4)
-
-any_right : {X : Type 0} (P : X → Type 0) (xs ys : List X) → Any P ys → Any P (xs ++ ys)
-any_right P [] ys h = h
-any_right P (x ∷ xs) ys h = let k = any_right P xs ys h in (suc k.0, k.1, let below = k.2 in omega (arith, below), k.3, k.4)
 
 -- the way back of the way back
 twice_other : (forward : Bool) (side : Hand) → hand_of_way forward (hand_of_way forward side) ≡ side

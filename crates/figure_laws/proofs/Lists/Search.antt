@@ -1,7 +1,8 @@
 -- A search along a list by a decided test.
 use Rattle.std.proofs.Common.{◌≡◌, ◌⊎◌, inl, inr, ℕ, zero, suc, ◌<◌}
-use Rattle.std.proofs.Common.{List, [], ◌∷◌, length, get_or, refl, sym, subst, arith}
-use Rattle.std.specs.List.{Contains}
+use Rattle.std.proofs.Common.{List, [], ◌∷◌, ◌++◌, length, length-append, get_or, refl, sym, ◌∙◌, subst, arith}
+use Rattle.std.specs.List.{Any, Contains}
+use Rattle.std.proofs.lemmas.List.{get_or_append_left}
 use Rattle.point_set.specs.declared.edge.Hand.TheVariants as hand
 
 -- ---- a search through a list
@@ -27,3 +28,13 @@ search_for {X} P decide (x ∷ xs) = by_first (decide x) (search_for P decide xs
         let c = h.there in
         inl (record { item = h.item; there = (suc c.0, let below = c.1 in omega (arith, below), c.2); holds = h.holds })
     by_first (inr n) (inr rest) = inr (λ y c p. none n rest y c.0 c.1 c.2 p)
+
+-- ---- some item of the one list or of the other
+pub any_left : {X : Type 0} (P : X → Type 0) (xs ys : List X) → Any P xs → Any P (xs ++ ys)
+any_left {X} P xs ys h =
+    let below = h.2 in
+    (h.0, h.1, omega (arith, below, length-append {A = X}), get_or_append_left xs ys h.1 h.0 below ∙ h.3, h.4)
+
+pub any_right : {X : Type 0} (P : X → Type 0) (xs ys : List X) → Any P ys → Any P (xs ++ ys)
+any_right P [] ys h = h
+any_right P (x ∷ xs) ys h = let k = any_right P xs ys h in (suc k.0, k.1, let below = k.2 in omega (arith, below), k.3, k.4)
