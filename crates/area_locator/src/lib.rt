@@ -2,7 +2,6 @@
 #![tactic(auto)]
 
 mod area;
-mod level;
 mod ring;
 #[cfg(test)]
 mod tests;
