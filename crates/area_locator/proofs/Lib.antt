@@ -1,1 +1,5 @@
+mod ByRows
+mod RowEdges
+mod Tally
 pub mod Touching
+mod ValidLocation

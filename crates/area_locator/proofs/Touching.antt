@@ -136,7 +136,7 @@ crosses_by true cr e = cc
 crosses_by false true e = (refl, refl)
 crosses_by false false e = cc
 
-misses_by : (on cr : Bool) → touch_by on cr ≡ Misses → (on ≡ false) × (cr ≡ false)
+pub misses_by : (on cr : Bool) → touch_by on cr ≡ Misses → (on ≡ false) × (cr ≡ false)
 misses_by true cr e = cc
 misses_by false true e = cc
 misses_by false false e = (refl, refl)

@@ -1,1 +1,3 @@
 pub mod Touches
+pub mod Validity
+pub mod Indexed

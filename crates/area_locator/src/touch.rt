@@ -47,7 +47,7 @@ fn is_same(a: Pt, b: Pt) -> bool
 }
 
 /// What an edge does to a node whose height it reaches.
-fn touch_of_edge(a: Pt, b: Pt, n: &Node, level: Level) -> Touch
+pub(crate) fn touch_of_edge(a: Pt, b: Pt, n: &Node, level: Level) -> Touch
     requires a { IsInLimit a }
     requires b { IsInLimit b }
     requires level { IsLevel (point_at n.now) level.floor level.ceiling }
