@@ -1,2 +1,5 @@
-pub mod Levels
+mod ByRows
+mod RowEdges
+mod Tally
 pub mod Touching
+mod ValidLocation

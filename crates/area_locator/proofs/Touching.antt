@@ -16,10 +16,10 @@ use Rattle.plane_exact.specs.declared.point.Pt.{Pt}
 use Rattle.plane_exact.specs.declared.point.Seg.{Seg}
 use Rattle.plane_exact.specs.declared.sign.Sign.TheVariants.{Minus, Zero, Plus}
 use Rattle.point_set.specs.Rings.{is_on_edge, is_on_edges, is_low, is_odd, is_same_position, differ, crosses, crosses_from, edges_after, edge_before}
-use Rattle.ring_laws.proofs.Parity.Flip.{crosses_none}
-use Rattle.area_locator.specs.Levels.{IsLevel}
+use Rattle.point_set.proofs.ParityFlip.{crosses_none}
 use Rattle.area_locator.specs.Touches.{touch_by, touch_of}
 use Rattle.area_locator.specs.declared.touch.Touch.TheVariants.{Holds, Crosses, Misses}
+use Rattle.y_index.specs.Levels.{IsLevel}
 
 -- ---- heights
 pub low_is : {p : Point} {f c : ℤ} → IsLevel p f c → (a : Pt) → is_low p (point_of a) ≡ int_le a.y f
@@ -136,7 +136,7 @@ crosses_by true cr e = cc
 crosses_by false true e = (refl, refl)
 crosses_by false false e = cc
 
-misses_by : (on cr : Bool) → touch_by on cr ≡ Misses → (on ≡ false) × (cr ≡ false)
+pub misses_by : (on cr : Bool) → touch_by on cr ≡ Misses → (on ≡ false) × (cr ≡ false)
 misses_by true cr e = cc
 misses_by false true e = cc
 misses_by false false e = (refl, refl)

@@ -1,2 +1,3 @@
-pub mod Levels
 pub mod Touches
+pub mod Validity
+pub mod Indexed

@@ -5,10 +5,10 @@ ghost use Rattle.point_set.specs.Location.{location_by};
 ghost use Rattle.point_set.specs.Rings.{edges_of, edges_after, is_on_edges, is_inside, is_odd};
 ghost use Rattle.point_set.specs.Shape.{IsWayInLimit};
 
-use crate::level::level_of;
 use crate::touch::{Touch, touch_between};
 use im_matrix::Loc;
 use plane_exact::{Node, Path, Pt};
+use y_index::level_of;
 
 /// Where a node lies in a ring: Boundary on one of its edges, else Interior where the ray to the right of the node crosses
 /// an odd number of edges, else Exterior. Takes no memory.

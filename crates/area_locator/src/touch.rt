@@ -1,12 +1,12 @@
 ghost use Rattle.std.specs.Prelude.{◌≡◌, false, not, ◌&&◌, int_le};
-ghost use Rattle.area_locator.specs.Levels.{IsLevel};
 ghost use Rattle.area_locator.specs.Touches.{touch_of, touch_by};
 ghost use Rattle.plane_exact.specs.NodePoints.{point_at};
 ghost use Rattle.plane_exact.specs.Places.{IsInLimit};
 ghost use Rattle.point_set.specs.Rings.{is_same_position};
+ghost use Rattle.y_index.specs.Levels.{IsLevel};
 
-use crate::level::Level;
 use plane_exact::{Node, Pt, Seg, Sign, on_segment, side_of};
+use y_index::Level;
 
 /// What an edge does to a node and to the ray to the right of it.
 #[derive(Clone, Copy)]
@@ -47,7 +47,7 @@ fn is_same(a: Pt, b: Pt) -> bool
 }
 
 /// What an edge does to a node whose height it reaches.
-fn touch_of_edge(a: Pt, b: Pt, n: &Node, level: Level) -> Touch
+pub(crate) fn touch_of_edge(a: Pt, b: Pt, n: &Node, level: Level) -> Touch
     requires a { IsInLimit a }
     requires b { IsInLimit b }
     requires level { IsLevel (point_at n.now) level.floor level.ceiling }

@@ -1,17 +1,17 @@
-ghost use Rattle.area_locator.specs.Levels.{IsLevel};
+ghost use Rattle.y_index.specs.Levels.{IsLevel};
 ghost use Rattle.plane_exact.specs.NodePoints.{point_at};
 
 use plane_exact::Node;
 
 /// The whole heights next to a node: the greatest that isn't above it, and the least that isn't below it.
 #[derive(Clone, Copy)]
-pub(crate) struct Level {
-    pub(crate) floor: i64,
-    pub(crate) ceiling: i64,
+pub struct Level {
+    pub floor: i64,
+    pub ceiling: i64,
 }
 
 /// The level of a node.
-pub(crate) fn level_of(n: &Node) -> Level
+pub fn level_of(n: &Node) -> Level
     ensures level { IsLevel (point_at n.now) result.floor result.ceiling }
 {
     match n.position() {

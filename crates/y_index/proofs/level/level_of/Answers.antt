@@ -3,10 +3,10 @@ use Rattle.std.proofs.lemmas.Int.{ints}
 use Rattle.whole_algebra.proofs.Laws.{*ℤ_one}
 use Rattle.plane_laws.specs.Plane.{Point}
 use Rattle.plane_exact.specs.Places.{point_of}
-use Rattle.whole_algebra.proofs.Computed.{narrow}
-use Rattle.area_locator.specs.Levels.{IsLevel}
-use Rattle.area_locator.proofs.Levels.{IsLevel-whole}
-use Rattle.area_locator.proofs.level.level_of.Goals as goal
+use Rattle.plane_exact.proofs.Sizes.{narrow}
+use Rattle.y_index.specs.Levels.{IsLevel}
+use Rattle.y_index.proofs.Levels.{IsLevel-whole}
+use Rattle.y_index.proofs.level.level_of.Goals as goal
 
 pub returns-in-Some : goal.returns-in-Some
 returns-in-Some c =

@@ -4,10 +4,11 @@ use mir.Syntax.{w128}
 use Rattle.whole_algebra.proofs.Computed.{Computes, product, stored, fits, narrow, wide}
 use Rattle.plane_exact.specs.Limits.{limit, largest, heaviest}
 use Rattle.plane_exact.specs.NodePoints.{point_at}
-use Rattle.area_locator.specs.Levels.{IsLevel}
-use Rattle.area_locator.proofs.Levels.{IsFloor-quotient, IsLevel-whole, IsLevel-between, height, weight, quotient, next}
-use Rattle.area_locator.proofs.level.level_between.Goals as goal
-use Rattle.area_locator.proofs.level.level_between.Goals.{then-floor-w, else-floor-w}
+use Rattle.plane_exact.proofs.Sizes.{narrow, wide}
+use Rattle.y_index.specs.Levels.{IsLevel}
+use Rattle.y_index.proofs.Levels.{IsFloor-quotient, IsLevel-whole, IsLevel-between, height, weight, quotient, next}
+use Rattle.y_index.proofs.level.level_between.Goals as goal
+use Rattle.y_index.proofs.level.level_between.Goals.{then-floor-w, else-floor-w}
 
 weight_of : (c : goal.After-div_euclid-floor) → Computes (wide c.parts-y.result.2) c.args.n.now.w heaviest
 weight_of c = weight c.args.n.now.y c.args.n.now.w c.parts-y.result.2 c.args.n.now.above c.parts-y.ensures.w
