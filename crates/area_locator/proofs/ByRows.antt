@@ -1,8 +1,8 @@
 -- The location by the rows that hold a point's height is that by all edges.
-use Rattle.std.proofs.Common.{◌≡◌, ℕ, ◌<◌, ◌≤◌, Bool, true, false, ◌&&◌, ℤ, ◌*ℤ◌, ◌<ℤ◌, ◌≤ℤ◌, List, length, get_or, ap, refl, sym, ◌∙◌, subst, arith}
+use Rattle.std.proofs.Common.{◌≡◌, ℕ, ◌<◌, ◌≤◌, Bool, true, false, ◌&&◌, ℤ, ◌*ℤ◌, ◌<ℤ◌, ◌≤ℤ◌, List, length, get_or, ap, refl, sym, ◌∙◌, arith}
 use Rattle.std.specs.Prelude.{map, int_le}
 use Rattle.std.specs.Int.{int_min, int_max}
-use Rattle.std.specs.List.{All, FoldsTo, filter, list_any}
+use Rattle.std.specs.List.{All, FoldsTo, list_any}
 use Rattle.std.proofs.lemmas.Bool.{false≢true}
 use Rattle.std.proofs.lemmas.Int.{ints, clamps}
 use Rattle.std.proofs.lemmas.List.Elements.{All-map, All-filter, All-weaker}
@@ -11,8 +11,8 @@ use Rattle.std.proofs.lemmas.Simd.{map-map}
 use Rattle.whole_algebra.proofs.Signs.{not_≤ℤ}
 use Rattle.im_matrix.specs.declared.Loc.{Loc}
 use Rattle.im_matrix.specs.declared.Loc.TheVariants.{Exterior}
-use Rattle.plane_exact.proofs.PlaneOn.{Decides-int_le}
-use Rattle.plane_exact.specs.Plane.{Point}
+use Rattle.plane_laws.proofs.Segments.On.{Decides-int_le}
+use Rattle.plane_laws.specs.Plane.{Point}
 use Rattle.plane_exact.specs.declared.point.Seg.{Seg}
 use Rattle.point_set.specs.Location.{location_by}
 use Rattle.point_set.specs.Rings.{is_on_edge, is_on_edges, crosses, is_odd}

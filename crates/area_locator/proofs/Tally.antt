@@ -1,5 +1,5 @@
 -- A fold over edges: the location by whether the point is on one of them, and whether its ray crosses an odd number.
-use Rattle.std.proofs.Common.{◌≡◌, ℕ, ◌<◌, Bool, true, false, ◌||◌, List, [], ◌∷◌, length, get_or, ap, refl, sym, ◌∙◌, subst, arith}
+use Rattle.std.proofs.Common.{◌≡◌, ℕ, ◌<◌, Bool, true, false, ◌||◌, List, [], ◌∷◌, length, get_or, refl, sym, ◌∙◌, subst}
 use Rattle.std.specs.Prelude.{Some, slice_get, map}
 use Rattle.std.specs.List.{All, FoldsTo}
 use Rattle.std.proofs.Math.Bool.{or_assoc, or-false}
@@ -7,9 +7,9 @@ use Rattle.std.proofs.lemmas.List.Elements.{All-head, All-tail}
 use Rattle.std.proofs.lemmas.Option.{slice_get-get_or}
 use Rattle.im_matrix.specs.declared.Loc.{Loc}
 use Rattle.im_matrix.specs.declared.Loc.TheVariants.{Exterior}
-use Rattle.plane_exact.specs.Plane.{Point}
+use Rattle.plane_laws.specs.Plane.{Point}
 use Rattle.plane_exact.specs.declared.point.Seg.{Seg}
-use Rattle.point_set.proofs.ParityTests.{differ_none, differ_assoc}
+use Rattle.ring_laws.proofs.Parity.Tests.{differ_none, differ_assoc}
 use Rattle.point_set.specs.Location.{location_by}
 use Rattle.point_set.specs.Rings.{is_on_edge, is_on_edges, crosses, differ, is_odd}
 use Rattle.area_locator.proofs.RowEdges.{no_edge}

@@ -16,7 +16,7 @@ use Rattle.plane_exact.specs.declared.point.Pt.{Pt}
 use Rattle.plane_exact.specs.declared.point.Seg.{Seg}
 use Rattle.plane_exact.specs.declared.sign.Sign.TheVariants.{Minus, Zero, Plus}
 use Rattle.point_set.specs.Rings.{is_on_edge, is_on_edges, is_low, is_odd, is_same_position, differ, crosses, crosses_from, edges_after, edge_before}
-use Rattle.point_set.proofs.ParityFlip.{crosses_none}
+use Rattle.ring_laws.proofs.Parity.Flip.{crosses_none}
 use Rattle.area_locator.specs.Touches.{touch_by, touch_of}
 use Rattle.area_locator.specs.declared.touch.Touch.TheVariants.{Holds, Crosses, Misses}
 use Rattle.y_index.specs.Levels.{IsLevel}

@@ -2,7 +2,7 @@
 use Rattle.std.specs.Prelude.{Bool, true, false}
 use Rattle.im_matrix.specs.declared.Loc.{Loc}
 use Rattle.im_matrix.specs.declared.Loc.TheVariants.{Interior, Boundary, Exterior}
-use Rattle.plane_exact.specs.Plane.{Point}
+use Rattle.plane_laws.specs.Plane.{Point}
 use Rattle.plane_exact.specs.declared.point.Pt.{Pt}
 use Rattle.point_set.specs.Rings.{is_on_edge, crosses}
 use Rattle.area_locator.specs.declared.touch.Touch.{Touch}

@@ -9,7 +9,7 @@ use Rattle.whole_algebra.proofs.Computed.{Computes, read, known, stored, sum, li
 use Rattle.plane_exact.proofs.Laws.{numerator_size, weight_size}
 use Rattle.plane_exact.specs.Limits.{limit, largest, heaviest}
 use Rattle.plane_exact.specs.Nodes.{IsFraction}
-use Rattle.plane_exact.specs.Plane.{Point}
+use Rattle.plane_laws.specs.Plane.{Point}
 use Rattle.y_index.specs.Levels.{IsLevel}
 
 -- the whole number f is the floor of y/w

@@ -8,8 +8,8 @@ use Rattle.std.proofs.lemmas.Bool.Decides.{same_from_decides, Decides-like}
 use Rattle.std.proofs.lemmas.List.Elements.{All-nil, All-cons, filter_agree}
 use Rattle.std.proofs.lemmas.Option.{get_or_from_slice_get}
 use Rattle.whole_algebra.proofs.Laws.{linear}
-use Rattle.plane_exact.proofs.PlaneOn.{Decides-int_le}
-use Rattle.plane_exact.specs.Plane.{Point}
+use Rattle.plane_laws.proofs.Segments.On.{Decides-int_le}
+use Rattle.plane_laws.specs.Plane.{Point}
 use Rattle.y_index.proofs.Folds.{FoldsTo-append}
 use Rattle.y_index.proofs.Hits.{none_above, none_below, some_between, rows_between-split, items_between-split, low_before, high_after}
 use Rattle.y_index.proofs.Slices.{slice_split, slice_all, All-slice_range, at_slice_range}

@@ -1,7 +1,7 @@
 -- Which rows hold the height of a point.
 use Rattle.std.specs.Prelude.{ℕ, ◌*ℤ◌, Bool, ◌&&◌, List, map, int_le}
 use Rattle.std.specs.List.{filter}
-use Rattle.plane_exact.specs.Plane.{Point}
+use Rattle.plane_laws.specs.Plane.{Point}
 use Rattle.y_index.specs.declared.rows.Span.{Span}
 use Rattle.y_index.specs.declared.rows.SpanRow.{SpanRow}
 use Rattle.y_index.specs.Trees.{span_of}

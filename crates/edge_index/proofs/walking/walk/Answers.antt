@@ -8,7 +8,7 @@ use Rattle.edge_index.proofs.Steps.{IsUnderway, underway_begin, underway_out, un
 use Rattle.edge_index.proofs.Turns.{IsTurn, turn_of, tree_of, meets_is}
 use Rattle.edge_index.proofs.walking.walk.Given.{Over}
 use Rattle.edge_index.proofs.walking.walk.Goals as goal
-use Rattle.edge_index.proofs.walking.walk.Goals.{In-Some, In_default, After-meets}
+use Rattle.edge_index.proofs.walking.walk.Goals.{In-Some, After-meets}
 
 -- the walk at a turn of the loop, and what is known there
 walk_here : (g : Over) (c : In-Some g) → IsUnderway (view_of c.args.w (g.T.Boxes.rows c.args.rows.now)) (Some c.in-Some.place) c.loop-next.out (g.M.Meter.used c.args.meter.now) (g.M.Meter.used c.loop-next.meter)

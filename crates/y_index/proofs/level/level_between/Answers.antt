@@ -4,7 +4,6 @@ use mir.Syntax.{w128}
 use Rattle.whole_algebra.proofs.Computed.{Computes, product, stored, fits, narrow, wide}
 use Rattle.plane_exact.specs.Limits.{limit, largest, heaviest}
 use Rattle.plane_exact.specs.NodePoints.{point_at}
-use Rattle.plane_exact.proofs.Sizes.{narrow, wide}
 use Rattle.y_index.specs.Levels.{IsLevel}
 use Rattle.y_index.proofs.Levels.{IsFloor-quotient, IsLevel-whole, IsLevel-between, height, weight, quotient, next}
 use Rattle.y_index.proofs.level.level_between.Goals as goal

@@ -3,7 +3,7 @@ use Rattle.std.proofs.lemmas.Int.{ints}
 use Rattle.whole_algebra.proofs.Laws.{*ℤ_one}
 use Rattle.plane_laws.specs.Plane.{Point}
 use Rattle.plane_exact.specs.Places.{point_of}
-use Rattle.plane_exact.proofs.Sizes.{narrow}
+use Rattle.whole_algebra.proofs.Computed.{narrow}
 use Rattle.y_index.specs.Levels.{IsLevel}
 use Rattle.y_index.proofs.Levels.{IsLevel-whole}
 use Rattle.y_index.proofs.level.level_of.Goals as goal
