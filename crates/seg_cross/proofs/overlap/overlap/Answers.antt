@@ -6,12 +6,15 @@ use Rattle.seg_cross.specs.Meets.{IsOnlyCommon}
 use Rattle.seg_cross.proofs.Overlaps.{earlier_has, later_has, one_position, overlap_along, overlap_at, overlap_apart}
 use Rattle.seg_cross.proofs.overlap.overlap.Goals as goal
 
-pub at_point-requires-clause-limited : goal.at_point-requires-clause-limited
-at_point-requires-clause-limited c =
+pub at_point-requires : goal.at_point-requires
+at_point-requires c =
     let r = c.requires in
-    later_has IsInLimit _ _ _ (record { first = c.later-low.ensures.first; second = c.later-low.ensures.second })
-    (earlier_has IsInLimit _ _ _ (record { first = c.earlier.ensures.first; second = c.earlier.ensures.second }) r.s_a r.s_b)
-    (earlier_has IsInLimit _ _ _ (record { first = c.earlier-2.ensures.first; second = c.earlier-2.ensures.second }) r.t_a r.t_b)
+    record {
+      limited =
+          later_has IsInLimit _ _ _ (record { first = c.later-low.ensures.first; second = c.later-low.ensures.second })
+          (earlier_has IsInLimit _ _ _ (record { first = c.earlier.ensures.first; second = c.earlier.ensures.second }) r.s_a r.s_b)
+          (earlier_has IsInLimit _ _ _ (record { first = c.earlier-2.ensures.first; second = c.earlier-2.ensures.second }) r.t_a r.t_b);
+    }
 
 pub returns-then-is_before-clause-exact : goal.returns-then-is_before-clause-exact
 returns-then-is_before-clause-exact c =
