@@ -113,10 +113,11 @@ leaf_of v (apart place within out) past e = cc
 leaf_of v (leaf place within past in') past' e = (refl, refl)
 leaf_of v (inner place items others looks more opened in' l r) past e = absurd (omega arith)
 
-pub underway_leaf : (v : View) (place : ℕ) (next : Option ℕ) (out : List ℕ) (begin used : ℕ) → v.inner ≤ place → v.meets place ≡ true → IsAfter place next → IsUnderway v (Some place) out begin used → IsUnderway v next (out ++ v.item place ∷ []) begin (used + 1)
-underway_leaf v place next out begin used past e follows walk =
+pub underway_leaf : (v : View) (place item : ℕ) (next : Option ℕ) (out : List ℕ) (begin used : ℕ) → v.inner ≤ place → v.meets place ≡ true → v.item place ≡ item → IsAfter place next → IsUnderway v (Some place) out begin used → IsUnderway v next (out ++ item ∷ []) begin (used + 1)
+underway_leaf v place item next out begin used past e is follows walk =
     let p = walk.rest in
     let one = leaf_of v p.visit past e in
+    let here = p.items_are ∙ ap (λ (xs : List ℕ). xs ++ p.later) one.0 ∙ ap (λ (i : ℕ). (i ∷ []) ++ p.later) is in
     record {
       all = walk.all;
       total = walk.total;
@@ -124,7 +125,7 @@ underway_leaf v place next out begin used past e follows walk =
       items = p.later;
       looks = p.later_looks;
       rest = after_rest v follows p.rest;
-      found = walk.found ∙ ap (λ (xs : List ℕ). out ++ xs) (p.items_are ∙ ap (λ (xs : List ℕ). xs ++ p.later) one.0) ∙ sym (append_assoc out (v.item place ∷ []) p.later);
+      found = walk.found ∙ ap (λ (xs : List ℕ). out ++ xs) here ∙ sym (append_assoc out (item ∷ []) p.later);
       steps = omega (arith, walk.steps, p.looks_are, one.1);
     }
 

@@ -49,3 +49,7 @@ meets_is w rows place row b at common =
     by_value : (b : Bool) → (IsTrue b ↔ HasCommonPoint row.window w) → have_common_point row.window w ≡ b
     by_value true h = (Decides-common row.window w).1 (h.0 refl)
     by_value false h = false_from_ne_true _ (λ e. false≢true (h.1 ((Decides-common row.window w).0 e)))
+
+-- and so is the item
+pub item_is : (w : Window) (rows : List BoxRow) (place : ℕ) (row : BoxRow) → IsRowAt rows place row → (view_of w rows).item place ≡ row.item
+item_is w rows place row at = ap (λ (r : BoxRow). r.item) (get_or_from_slice_get rows place row _ at)

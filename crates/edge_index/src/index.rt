@@ -8,11 +8,14 @@ use plane_exact::{Count, Meter, NoMemory, PlaceList, Seg, SegList, Window};
 use std::alloc::Global;
 use std::marker::Model;
 
-/// Segments with a tree of boxes over them. It keeps 52 bytes a segment.
+/// Segments with a tree of boxes over them. It keeps 20 bytes a segment beside its list of segments.
 #[derive(Debug, Drop)]
 pub struct EdgeIndex {
+    /// The segments in order.
     segs: SegList,
+    /// The segments' places, in the order of the leaves.
     leaves: Vec<u32>,
+    /// The windows of those inner rows that have an inner child. The others are made from two leaves.
     inner: Vec<Window>,
 }
 
@@ -29,7 +32,7 @@ impl Model for EdgeIndex {
 
 impl EdgeIndex {
     ghost use Rattle.std.specs.Prelude.{◌≡◌, ◌+◌, ◌*◌, ◌≤◌, ◌^◌, ◌↔◌, length, IfOk, OnOk, IfSome, IsNone};
-    ghost use Rattle.edge_index.specs.Segments.{ArePlacesIn, AreLeavesOf, IsFirstDifference};
+    ghost use Rattle.edge_index.specs.Segments.{ArePlacesIn, IsFirstDifference};
     ghost use Rattle.edge_index.specs.Trees.{inner_meeting};
 
     /// The index of a list of at most 1,048,576 segments.

@@ -3,6 +3,7 @@
 
 mod boxes;
 mod index;
+mod laws;
 mod order;
 mod rows;
 #[cfg(test)]
@@ -11,4 +12,5 @@ mod walking;
 
 pub use boxes::{BoxRow, Boxes};
 pub use index::EdgeIndex;
+pub use laws::law_common_points_are_tested;
 pub use walking::walk;

@@ -28,7 +28,8 @@ pub fn walk<T: Boxes<M>, M: Meter>(
     let mut next = Some(0);
     while let Some(place) = next {
         let row = rows.look(place, meter);
-        if !row.window.meets(&w) {
+        let meets = row.window.meets(&w);
+        if !meets {
             next = after(place);
         } else if place < count / 2 {
             next = Some(2 * place + 1);

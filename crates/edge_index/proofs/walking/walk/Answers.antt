@@ -1,14 +1,12 @@
-use Rattle.std.proofs.Common.{◌≡◌, ◌+◌, ◌*◌, ◌<◌, ℕ, List, [], ◌∷◌, ◌++◌, length, subst, subst₂, sym, ap, ◌∙◌, arith}
+use Rattle.std.proofs.Common.{◌≡◌, ◌+◌, ◌*◌, ◌<◌, ℕ, List, length, subst, subst₂, sym, ◌∙◌, arith}
 use Rattle.std.specs.Prelude.{Option, Some}
-use Rattle.std.proofs.lemmas.Option.{get_or_from_slice_get}
-use Rattle.edge_index.specs.declared.boxes.BoxRow.{BoxRow}
 use Rattle.edge_index.proofs.Finds.{walk_items, walk_looks}
-use Rattle.edge_index.proofs.Meetings.{view_of, row_in}
+use Rattle.edge_index.proofs.Meetings.{view_of}
 use Rattle.edge_index.proofs.Steps.{IsUnderway, underway_begin, underway_out, underway_leaf, underway_inner, underway_end}
-use Rattle.edge_index.proofs.Turns.{IsTurn, turn_of, tree_of, meets_is}
+use Rattle.edge_index.proofs.Turns.{IsTurn, turn_of, tree_of, meets_is, item_is}
 use Rattle.edge_index.proofs.walking.walk.Given.{Over}
 use Rattle.edge_index.proofs.walking.walk.Goals as goal
-use Rattle.edge_index.proofs.walking.walk.Goals.{In-Some, After-meets}
+use Rattle.edge_index.proofs.walking.walk.Goals.{In-Some, In_default, After-meets-meets}
 
 -- the walk at a turn of the loop, and what is known there
 walk_here : (g : Over) (c : In-Some g) → IsUnderway (view_of c.args.w (g.T.Boxes.rows c.args.rows.now)) (Some c.in-Some.place) c.loop-next.out (g.M.Meter.used c.args.meter.now) (g.M.Meter.used c.loop-next.meter)
@@ -43,8 +41,8 @@ loop-next-smaller-then-not-meets g c =
     omega (arith, turn.left, c.look-row.ensures.step)
 
 -- what the walk's view says of the row that was looked at
-view_here : (g : Over) (c : After-meets g) → (view_of c.args.w (g.T.Boxes.rows c.args.rows.now)).meets c.in-Some.place ≡ c.meets.result
-view_here g c = meets_is c.args.w (g.T.Boxes.rows c.args.rows.now) c.in-Some.place c.look-row.result c.meets.result c.look-row.ensures.row c.meets.ensures.common
+view_here : (g : Over) (c : After-meets-meets g) → (view_of c.args.w (g.T.Boxes.rows c.args.rows.now)).meets c.in-Some.place ≡ c.meets-meets.result
+view_here g c = meets_is c.args.w (g.T.Boxes.rows c.args.rows.now) c.in-Some.place c.look-row.result c.meets-meets.result c.look-row.ensures.row c.meets-meets.ensures.common
 
 pub loop-next-preserved-then-not-meets : goal.loop-next-preserved-then-not-meets
 loop-next-preserved-then-not-meets g c =
@@ -52,7 +50,7 @@ loop-next-preserved-then-not-meets g c =
     let v = view_of c.args.w (g.T.Boxes.rows c.args.rows.now) in
     let begin = g.M.Meter.used c.args.meter.now in
     subst (λ (used : ℕ). IsUnderway v c.after-next.result c.loop-next.out begin used) (sym c.look-row.ensures.step)
-    (underway_out v c.in-Some.place c.after-next.result c.loop-next.out begin _ (view_here g at.After-meets ∙ c.if-not-meets.true) c.after-next.ensures.after (walk_here g at.In-Some))
+    (underway_out v c.in-Some.place c.after-next.result c.loop-next.out begin _ (view_here g at.After-meets-meets ∙ c.if-not-meets.true) c.after-next.ensures.after (walk_here g at.In-Some))
 
 pub loop-next-smaller-then-place-count : goal.loop-next-smaller-then-place-count
 loop-next-smaller-then-place-count g c =
@@ -65,7 +63,7 @@ loop-next-preserved-then-place-count g c =
     let v = view_of c.args.w (g.T.Boxes.rows c.args.rows.now) in
     let begin = g.M.Meter.used c.args.meter.now in
     subst (λ (used : ℕ). IsUnderway v (Some (2 * c.in-Some.place + 1)) c.loop-next.out begin used) (sym c.look-row.ensures.step)
-    (underway_inner v c.in-Some.place c.loop-next.out begin _ (omega (arith, c.count-count.ensures.count)) (view_here g at.After-meets ∙ c.if-not-meets.false) (walk_here g at.In-Some))
+    (underway_inner v c.in-Some.place c.loop-next.out begin _ (omega (arith, c.count-count.ensures.count)) (view_here g at.After-meets-meets ∙ c.if-not-meets.false) (walk_here g at.In-Some))
 
 pub returns-in_err-push-clause-steps : goal.returns-in_err-push-clause-steps
 returns-in_err-push-clause-steps g c =
@@ -89,10 +87,9 @@ loop-next-preserved g c =
     let v = view_of c.args.w rows in
     let begin = g.M.Meter.used c.args.meter.now in
     let next = c.after-next-else-place-count.result in
-    let row : row_in rows c.in-Some.place ≡ c.look-row.result = get_or_from_slice_get rows c.in-Some.place _ _ c.look-row.ensures.row in
-    let pushed = ap (λ (r : BoxRow). c.loop-next.out ++ r.item ∷ []) row ∙ sym c.in_ok-push.ensures.ok in
-    subst₂ (λ (out : List ℕ) (used : ℕ). IsUnderway v next out begin used) pushed (sym c.look-row.ensures.step)
-    (underway_leaf v c.in-Some.place next c.loop-next.out begin _ (omega (arith, c.count-count.ensures.count)) (view_here g at.After-meets ∙ c.if-not-meets.false) c.after-next-else-place-count.ensures.after (walk_here g at.In-Some))
+    let item = item_is c.args.w rows c.in-Some.place c.look-row.result c.look-row.ensures.row in
+    subst₂ (λ (out : List ℕ) (used : ℕ). IsUnderway v next out begin used) (sym c.in_ok-push.ensures.ok) (sym c.look-row.ensures.step)
+    (underway_leaf v c.in-Some.place c.look-row.result.item next c.loop-next.out begin _ (omega (arith, c.count-count.ensures.count)) (view_here g at.After-meets-meets ∙ c.if-not-meets.false) item c.after-next-else-place-count.ensures.after (walk_here g at.In-Some))
 
 pub returns-clause-items : goal.returns-clause-items
 returns-clause-items g c =

@@ -1,4 +1,4 @@
-use Rattle.std.proofs.Common.{◌<◌, ◌-◌, ◌*◌, length, ℕ, List, subst₂, sym, ap, ap₂, ◌∙◌, arith}
+use Rattle.std.proofs.Common.{◌≡◌, ◌<◌, ◌-◌, ◌*◌, length, ℕ, List, subst, subst₂, sym, ap, arith}
 use Rattle.std.specs.Prelude.{All}
 use Rattle.plane_exact.specs.declared.point.Seg.{Seg}
 use Rattle.plane_exact.specs.declared.window.Window.{Window}
@@ -31,6 +31,7 @@ returns-clause-row g c =
     let s = c.self.inside in
     let place = c.args.place in
     let there = row_there s.segs s.leaves.items s.inner.items c.self.invariant place (within g (goal.at.returns-clause-row g c).After-deref-2) in
-    let lists = ap₂ (λ (segs : List Seg) (leaves : List ℕ). row_at segs leaves c.deref-2.result.now place) c.as_slice.ensures.items c.deref.ensures.value in
-    let row = c.row_at.ensures.row ∙ lists ∙ ap (λ (inner : List Window). row_at s.segs s.leaves.items inner place) c.deref-2.ensures.value in
+    let result = c.row_at.result in
+    let by_inner = subst (λ (inner : List Window). result ≡ row_at c.as_slice.result.now c.deref.result.now inner place) c.deref-2.ensures.value c.row_at.ensures.row in
+    let row = subst₂ (λ (segs : List Seg) (leaves : List ℕ). result ≡ row_at segs leaves s.inner.items place) c.as_slice.ensures.items c.deref.ensures.value by_inner in
     subst₂ (λ (seen : SeenIndex) (r : BoxRow). IsRowAt seen.rows place r) c.self.view_is (sym row) there
