@@ -4,8 +4,9 @@ use Rattle.std.proofs.lemmas.List.{at_drop_more, get_or-map, length-map}
 use Rattle.geosop_io.specs.Pairs.{bytes_of}
 
 -- the pair at a place, where an item there stands for it
-pub pair_at : {X : Type 0} (pair_of : X → List ℕ × List ℕ) (items read : List X) (pairs : List (List ℕ × List ℕ)) (i : ℕ) (item : X) → read ≡ items
-    → map pair_of items ≡ pairs → i < length read → item ≡ get_or read i item → (i < length pairs) × (get_or pairs i ([], []) ≡ pair_of item)
+pub pair_at : {X : Type 0} (pair_of : X → List ℕ × List ℕ) (items read : List X) (pairs : List (List ℕ × List ℕ)) (i : ℕ) (item : X)
+    → read ≡ items → map pair_of items ≡ pairs → i < length read → item ≡ get_or read i item
+    → (i < length pairs) × (get_or pairs i ([], []) ≡ pair_of item)
 pair_at pair_of items read pairs i item same view below is =
     subst (λ all. (i < length all) × (get_or all i ([], []) ≡ pair_of item)) (ap (map pair_of) same ∙ view) (
       subst (λ n. i < n) (sym (length-map read pair_of)) below,

@@ -1,5 +1,7 @@
+ghost use Rattle.std.specs.Prelude.{◌≡◌, None};
+
 use geosop_io::{MemInputs, MemSink, NamedBytes};
-use geosop_run::{Free, Refusal, Status, UsageFault, run};
+use geosop_run::{Free, Gate, Refusal, Status, UsageFault, run};
 use im_matrix::Which;
 use plane_exact::{NoMemory, PlaceList};
 use std::alloc::{AllocError, Global};
@@ -40,17 +42,28 @@ fn files_of(alloc: Global) -> Result<NamedBytes, NoMemory> {
     Ok(files)
 }
 
-// Runs the words on these files, of which a read gives at most so many bytes, and at least one.
+// The numbers of the calls that fail.
+fn places_of(alloc: Global, numbers: &[u32]) -> Result<PlaceList, NoMemory> {
+    let mut places = PlaceList::new(alloc);
+    for number in numbers {
+        places.push(*number)?;
+    }
+    Ok(places)
+}
+
+// Runs the words on these sources. The writes with these numbers fail.
 fn run_on<R: Threads + Sync + AllocGlobal>(
     rt: &R,
     list: &[&str],
-    files: NamedBytes,
-    piece: usize,
-) -> Result<Outcome, NoMemory> {
+    mut inputs: MemInputs,
+    failing_writes: &[u32],
+) -> Result<Outcome, NoMemory>
+    requires a_new { inputs.asked.a ≡ None }
+    requires b_new { inputs.asked.b ≡ None }
+{
     let alloc = rt.alloc();
     let words = words_of(alloc, list)?;
-    let mut inputs = MemInputs::new(files, PlaceList::new(alloc), piece.max(1));
-    let mut out = MemSink::new(alloc, 1000, PlaceList::new(alloc))?;
+    let mut out = MemSink::new(alloc, 1000, places_of(alloc, failing_writes)?)?;
     let mut err = MemSink::new(alloc, 1000, PlaceList::new(alloc))?;
     let status = run(
         rt,
@@ -69,8 +82,11 @@ fn run_on<R: Threads + Sync + AllocGlobal>(
     })
 }
 
+// Runs the words on the files, of which a read gives at most seven bytes.
 fn run_words<R: Threads + Sync + AllocGlobal>(rt: &R, list: &[&str]) -> Result<Outcome, NoMemory> {
-    run_on(rt, list, files_of(rt.alloc())?, 7)
+    let alloc = rt.alloc();
+    let inputs = MemInputs::new(files_of(alloc)?, PlaceList::new(alloc), 7);
+    run_on(rt, list, inputs, &[])
 }
 
 fn relate<R: Threads + Sync + AllocGlobal>(rt: &R, a: &str, b: &str) -> Result<Outcome, NoMemory> {
@@ -193,7 +209,7 @@ fn relate_spaces<R: Threads + Sync + AllocGlobal>(
     let mut files = NamedBytes::new(alloc);
     files.add("spaces.wkt", spaces.as_slice())?;
     let list = ["geosop", "-a", "spaces.wkt", "-b", "POINT (0 0)", "relate"];
-    run_on(rt, &list, files, 65_536)
+    run_on(rt, &list, MemInputs::new(files, PlaceList::new(alloc), 65_536), &[])
 }
 
 #[test]
@@ -233,4 +249,23 @@ fn usage_faults(rt: HostRuntime) -> Result<(), Fail> {
         )
     );
     Ok(())
+}
+
+#[test]
+fn a_call_that_fails_ends_the_run(rt: HostRuntime) -> Result<(), Fail> {
+    let alloc = rt.alloc();
+    let list = ["geosop", "-a", "two.wkt", "-b", "POINT (1 1)", "relate"];
+    let second_read = MemInputs::new(files_of(alloc)?, places_of(alloc, &[3])?, 7);
+    let unread = run_on(&rt, &list, second_read, &[])?;
+    assert!(rt; unread.is(Status::ReadFault, "", "geosop: read fault\n"));
+    assert_eq!(rt; unread.calls, 3);
+    let inputs = MemInputs::new(files_of(alloc)?, PlaceList::new(alloc), 7);
+    let cut = run_on(&rt, &list, inputs, &[2])?;
+    assert!(rt; cut.is(Status::WriteFault, "FF0FFF0F2\n", "geosop: write fault\n"));
+    Ok(())
+}
+
+#[test]
+fn the_free_gate_lets_workers_pass() {
+    Free.pass(0);
 }

@@ -1,5 +1,5 @@
 -- What a run says by its status leaves one status for each command line and input, but for want of memory and counted faults.
-use Rattle.std.proofs.Common.{◌≡◌, ℕ, ◌+◌, ◌<◌, ◌≤◌, min, List, None, ◌⊎◌, inl, inr, refl, ap, subst, arith}
+use Rattle.std.proofs.Common.{◌≡◌, ℕ, List, None, ◌⊎◌, inl, inr, refl, ap, subst, arith}
 use Rattle.im_matrix.specs.declared.Which.{Which}
 use Rattle.im_matrix.specs.declared.Which.TheVariants.{A, B}
 use Rattle.point_set.specs.declared.figure.Figure.{Figure}
@@ -11,9 +11,9 @@ use Rattle.geosop_run.specs.declared.status.Refusal.{Refusal}
 use Rattle.geosop_run.specs.declared.status.Status.{Status}
 use Rattle.geosop_run.specs.declared.status.Status.TheVariants as status
 use Rattle.geosop_run.specs.Command.{IsCommandOf, IsUsageFault}
-use Rattle.geosop_run.specs.Asking.{bytes_of, side_of}
+use Rattle.geosop_run.specs.Asking.{side_of}
 use Rattle.geosop_run.specs.Sources.{IsRefusalOf, IsAdmitted, IsFirstRefusal}
-use Rattle.geosop_run.specs.Run.{Run, source_of_side, HasBytes, HasText, HasComeTo, IsUnwritten, OfCommand, SaysOf, IsAskedRightly, IsLastAsked, IsRefusedOrStopped, ComesOf, IsRun}
+use Rattle.geosop_run.specs.Run.{Run, HasBytes, HasText, HasComeTo, IsUnwritten, OfCommand, SaysOf, IsAskedRightly, IsLastAsked, IsRefusedOrStopped, IsRun}
 use Rattle.geosop_run.proofs.OneCommand.{one_command, command_or_usage, one_usage}
 use Rattle.geosop_run.proofs.OneAnswer.{both_admitted, one_refusal, one_first_refusal, admitted_not_refused}
 
@@ -55,12 +55,14 @@ module _ (run : Run) where
     no_first text h a b told_a told_b found first =
         both_admitted a b h.in_a h.in_b found (h.admitted_a.admitted a told_a) (h.admitted_b.admitted b told_b) first
 
-    completes : (ended : Status) → SaysOf run ended → (a b : List ℕ) → HasBytes run command A a → HasBytes run command B b → (in_a in_b : List Figure)
+    completes : (ended : Status) → SaysOf run ended → (a b : List ℕ) → HasBytes run command A a → HasBytes run command B b
+        → (in_a in_b : List Figure)
         → IsAdmitted a in_a → IsAdmitted b in_b
         → (¬ IsRisen run.inputs_before.faults run.inputs_after.faults) → (¬ IsRisen run.output_before.faults run.output_after.faults)
         → (ended ≡ status.Ok) ⊎ (ended ≡ status.NoMemory)
     completes status.Ok says a b told_a told_b in_a in_b h k reads writes = inl refl
-    completes (status.Usage other) says a b told_a told_b in_a in_b h k reads writes = absurd (command_or_usage run.words command other is says.first)
+    completes (status.Usage other) says a b told_a told_b in_a in_b h k reads writes =
+        absurd (command_or_usage run.words command other is says.first)
     completes (status.Refused found) says a b told_a told_b in_a in_b h k reads writes =
         let s = of_this _ command is says in absurd (both_admitted a b in_a in_b found h k (s.first a b told_a told_b))
     completes status.ReadFault says a b told_a told_b in_a in_b h k reads writes = absurd (reads (risen _ _ says.holds.unreadable.counted))
@@ -80,7 +82,8 @@ module _ (run : Run) where
     refusal_comes status.NoMemory says a b told_a told_b found first = inr (inr refl)
 
     -- what is refused is the refusal of A
-    refused_in_a : (other : Refusal) → SaysOf run (status.Refused other) → (a : List ℕ) → HasBytes run command A a → (found : Refusal) → IsRefusalOf A a found
+    refused_in_a : (other : Refusal) → SaysOf run (status.Refused other) → (a : List ℕ) → HasBytes run command A a → (found : Refusal)
+        → IsRefusalOf A a found
         → other ≡ found
     refused_in_a other says a told found refusal = by_side (side_of other) refl
       where
@@ -94,18 +97,21 @@ module _ (run : Run) where
             let come : HasComeTo run command B = subst (HasComeTo run command) e s.come in
             absurd (admitted_not_refused A a come.0 found (come.1.admitted a told) refusal)
 
-    refusal_of_a_comes : (ended : Status) → SaysOf run ended → (a : List ℕ) → HasBytes run command A a → (found : Refusal) → IsRefusalOf A a found
+    refusal_of_a_comes : (ended : Status) → SaysOf run ended → (a : List ℕ) → HasBytes run command A a → (found : Refusal)
+        → IsRefusalOf A a found
         → IsRefusedOrStopped ended found
     refusal_of_a_comes status.Ok says a told found refusal =
         let s = of_this _ command is says in absurd (no_refusal s.text s.of_pairs A a told found refusal)
     refusal_of_a_comes (status.Usage other) says a told found refusal = absurd (command_or_usage run.words command other is says.first)
-    refusal_of_a_comes (status.Refused other) says a told found refusal = inl (ap status.Refused (refused_in_a other says a told found refusal))
+    refusal_of_a_comes (status.Refused other) says a told found refusal =
+        inl (ap status.Refused (refused_in_a other says a told found refusal))
     refusal_of_a_comes status.ReadFault says a told found refusal = inr (inl refl)
     refusal_of_a_comes status.WriteFault says a told found refusal =
         let s = of_this _ command is says in absurd (no_refusal s.text s.of_pairs A a told found refusal)
     refusal_of_a_comes status.NoMemory says a told found refusal = inr (inr refl)
 
-    b_unasked : IsLastAsked run → (a : List ℕ) → HasBytes run command A a → (found : Refusal) → IsRefusalOf A a found → run.inputs_after.asked B ≡ None
+    b_unasked : IsLastAsked run → (a : List ℕ) → HasBytes run command A a → (found : Refusal) → IsRefusalOf A a found
+        → run.inputs_after.asked B ≡ None
     b_unasked last a told found refusal = elim last [
       | inl none ↦ none
       | inr admitted ↦ (let s = of_this _ command is admitted in absurd (admitted_not_refused A a s.0 found (s.1.admitted a told) refusal))

@@ -12,7 +12,8 @@ record SameValues (a b a' b' : List ℕ) : Type 0 where
 
 same_values : (words : List (List ℕ)) (a b a' b' : List ℕ) → HasValues words a b → HasValues words a' b' → SameValues a b a' b'
 same_values words a b a' b' h k =
-    let e : h.name ∷ codes "-a" ∷ a ∷ codes "-b" ∷ b ∷ codes "relate" ∷ [] ≡ k.name ∷ codes "-a" ∷ a' ∷ codes "-b" ∷ b' ∷ codes "relate" ∷ []
+    let e : h.name ∷ codes "-a" ∷ a ∷ codes "-b" ∷ b ∷ codes "relate" ∷ []
+    ≡ k.name ∷ codes "-a" ∷ a' ∷ codes "-b" ∷ b' ∷ codes "relate" ∷ []
     = sym h.is ∙ k.is in
     record { same_a = cc e; same_b = cc e }
 
@@ -26,7 +27,8 @@ one_command words command other h k =
     }
 
 -- a command line is a command, or has a first fault, and not both
-pub command_or_usage : (words : List (List ℕ)) (command : Config) (fault : UsageFault) → IsCommandOf words command → IsUsageFault words fault → ⊥
+pub command_or_usage : (words : List (List ℕ)) (command : Config) (fault : UsageFault) → IsCommandOf words command
+    → IsUsageFault words fault → ⊥
 command_or_usage words command Line h k = k h.a h.b h.values
 command_or_usage words command Sources h k =
     let same = same_values words h.a h.b k.a k.b h.values k.values in

@@ -1,15 +1,15 @@
 -- Texts of one part for each item of a list, offered item by item.
-use Rattle.std.proofs.Common.{◌≡◌, ℕ, ◌+◌, ◌<◌, ◌≤◌, List, [], ◌∷◌, ◌++◌, Result, Ok, Err, refl, sym, subst, ◌∙◌, ap, append_assoc, length, length-append, take, drop, get_or, arith, inl, inr}
+use Rattle.std.proofs.Common.{◌≡◌, ℕ, ◌+◌, ◌<◌, ◌≤◌, List, [], ◌∷◌, ◌++◌, Result, Ok, Err, refl, sym, subst, ◌∙◌, ap, append_assoc, length, length-append, take, drop, get_or, arith}
 use Rattle.std.specs.List.{All, flat_map}
 use Rattle.std.proofs.lemmas.List.{take_more, drop_more, take_all, take_at, drop_at, take-append-drop, take-append-le, append-nil}
 use Rattle.std.proofs.lemmas.List.Elements.{All-head, All-tail}
 use Rattle.std.proofs.Math.Seq.{take-add}
-use Rattle.geosop_io.specs.Sink.{SinkSeen, IsOffered, IsTried, HasFailedAt, after_taking, after_fault}
+use Rattle.geosop_io.specs.Sink.{SinkSeen, HasFailedAt, after_taking, after_fault}
 use Rattle.geosop_io.proofs.Laws.{after_taking-nil, after_taking-append}
-use Rattle.geosop_run.specs.Text.{IsJoined, IsTextOfEach, IsTextOffered}
+use Rattle.geosop_run.specs.Text.{IsTextOfEach, IsTextOffered}
 
 -- a failure within one more part is one within all of the text
-pub failed_within : (old middle new : SinkSeen) (before part after : List ℕ) → middle ≡ after_taking old before
+failed_within : (old middle new : SinkSeen) (before part after : List ℕ) → middle ≡ after_taking old before
     → HasFailedAt middle new part → HasFailedAt old new (before ++ (part ++ after))
 failed_within old middle new before part after taken failed =
     let all = before ++ (part ++ after) in
@@ -25,16 +25,6 @@ failed_within old middle new before part after taken failed =
           ∙ ap (λ seen. after_fault (after_taking seen (take failed.count part))) taken
           ∙ ap after_fault (after_taking-append old before (take failed.count part) ∙ ap (after_taking old) (sym front));
     }
-
--- what was offered is tried, whatever came of it
-pub tried : {T E : Type 0} (result : Result T E) (old new : SinkSeen) (bytes : List ℕ) → IsOffered result old new bytes → IsTried old new bytes
-tried (Ok done) old new bytes h = inl h.whole
-tried (Err fault) old new bytes h = inr h.front
-
--- what was offered are bytes that are equal to these
-pub offered_same : {T E : Type 0} {result : Result T E} {old new : SinkSeen} {xs ys : List ℕ} → xs ≡ ys
-    → IsOffered result old new xs → IsOffered result old new ys
-offered_same {T} {E} {result} {old} {new} e h = subst (λ bytes. IsOffered result old new bytes) e h
 
 module _ {X : Type 0} (IsPart : X → List ℕ → Type 0) where
   -- the parts of one list behind those of another
@@ -122,7 +112,8 @@ text_offered IsPart xs i old new h taken =
     record { text = all.text; is_text = all.is_text; offered = record { whole = all.taken; front = tt } }
 
 -- a failure came within one part
-pub text_failed : {X E : Type 0} (e : E) (IsPart : X → List ℕ → Type 0) (xs : List X) (i : ℕ) (d x : X) (old middle new : SinkSeen) (part : List ℕ)
+pub text_failed : {X E : Type 0} (e : E) (IsPart : X → List ℕ → Type 0) (xs : List X) (i : ℕ) (d x : X) (old middle new : SinkSeen)
+    (part : List ℕ)
     → x ≡ get_or xs i d → i < length xs → HasTakenParts IsPart (take i xs) old middle → IsPart x part → HasFailedAt middle new part
     → (rest : (text : List ℕ) × IsTextOfEach IsPart (drop (i + 1) xs) text) → IsTextOffered (IsTextOfEach IsPart xs) (failed_by e) old new
 text_failed e IsPart xs i d x old middle new part is h before is_part failed rest =
@@ -138,7 +129,8 @@ pub taken_flat : {X : Type 0} (f : X → List ℕ) (xs : List X) (old new : Sink
     → new ≡ after_taking old (flat_map f xs)
 taken_flat f xs old new h = h.taken ∙ ap (after_taking old) (flat_text f xs h.text h.is_text)
 
-pub failed_flat : {X : Type 0} (f : X → List ℕ) (xs : List X) (i : ℕ) (d x : X) (old middle new : SinkSeen) → x ≡ get_or xs i d → i < length xs
+pub failed_flat : {X : Type 0} (f : X → List ℕ) (xs : List X) (i : ℕ) (d x : X) (old middle new : SinkSeen) → x ≡ get_or xs i d
+    → i < length xs
     → HasTakenParts (λ x part. part ≡ f x) (take i xs) old middle → HasFailedAt middle new (f x) → HasFailedAt old new (flat_map f xs)
 failed_flat f xs i d x old middle new is h before failed =
     let rest = some_text (λ x part. part ≡ f x) (drop (i + 1) xs) (λ k e below. (f (get_or (drop (i + 1) xs) k e), refl)) in

@@ -59,9 +59,11 @@ some_line a b rule h k =
     )
 
 -- a figure has a row with each list
-pub some_row : (a : Figure) (in_b : List Figure) (rule : Rule) → HasPointsAlone a → All HasPointsAlone in_b → (row : List ℕ) × IsRowOf a in_b rule row
+pub some_row : (a : Figure) (in_b : List Figure) (rule : Rule) → HasPointsAlone a → All HasPointsAlone in_b
+    → (row : List ℕ) × IsRowOf a in_b rule row
 some_row a in_b rule h k = some_text (λ b. IsLineOf a b rule) in_b (λ i d below. some_line a _ rule h (k i d below))
 
 -- two lists have a text
-pub some_text_of : (in_a in_b : List Figure) (rule : Rule) → All HasPointsAlone in_a → All HasPointsAlone in_b → (text : List ℕ) × IsTextOf in_a in_b rule text
+pub some_text_of : (in_a in_b : List Figure) (rule : Rule) → All HasPointsAlone in_a → All HasPointsAlone in_b
+    → (text : List ℕ) × IsTextOf in_a in_b rule text
 some_text_of in_a in_b rule h k = some_text (λ a. IsRowOf a in_b rule) in_a (λ i d below. some_row _ in_b rule (h i d below) k)

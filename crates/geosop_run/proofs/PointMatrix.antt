@@ -35,26 +35,31 @@ Says positions p Interior = is_at_some p positions ≡ true
 Says positions p Boundary = ⊥
 Says positions p Exterior = is_at_some p positions ≡ false
 
-kind_says : (positions : List Pt) (rule : Rule) (p : Point) (k : DimLoc) → IsKind (points_figure positions) rule p k → Says positions p (part_of k)
-kind_says positions rule p kind.AreaInterior h = absurd (false≢true (h.covered p (record { s = h.strictly.s; t = h.strictly.t; u = h.strictly.u; mix = h.strictly.mix })))
+kind_says : (positions : List Pt) (rule : Rule) (p : Point) (k : DimLoc) → IsKind (points_figure positions) rule p k
+    → Says positions p (part_of k)
+kind_says positions rule p kind.AreaInterior h =
+    absurd (false≢true (h.covered p (record { s = h.strictly.s; t = h.strictly.t; u = h.strictly.u; mix = h.strictly.mix })))
 kind_says positions rule p kind.AreaBoundary h = absurd (false≢true h.0)
 kind_says positions rule p kind.LineBoundary h = absurd (false≢true h.1)
 kind_says positions rule p kind.LineInterior h = absurd (false≢true h.1)
 kind_says positions rule p kind.PointInterior h = sym (or-false (is_at_some p positions)) ∙ h.2
 kind_says positions rule p kind.Exterior h = sym (or-false (is_at_some p positions)) ∙ h.2
 
-location_says : (positions : List Pt) (rule : Rule) (p : Point) (part : Loc) → IsLocation (points_figure positions) rule p part → Says positions p part
+location_says : (positions : List Pt) (rule : Rule) (p : Point) (part : Loc) → IsLocation (points_figure positions) rule p part
+    → Says positions p part
 location_says positions rule p part l =
     subst (λ (x : Loc). Says positions p x) l.gives (kind_says positions rule p l.decided_by l.decides)
 
-interior : (positions : List Pt) (rule : Rule) (p : Point) → is_at_some p positions ≡ true → IsLocation (points_figure positions) rule p Interior
+interior : (positions : List Pt) (rule : Rule) (p : Point) → is_at_some p positions ≡ true
+    → IsLocation (points_figure positions) rule p Interior
 interior positions rule p h = record {
   decided_by = kind.PointInterior;
   decides = (refl, refl, or-false (is_at_some p positions) ∙ h);
   gives = refl;
 }
 
-exterior : (positions : List Pt) (rule : Rule) (p : Point) → is_at_some p positions ≡ false → IsLocation (points_figure positions) rule p Exterior
+exterior : (positions : List Pt) (rule : Rule) (p : Point) → is_at_some p positions ≡ false
+    → IsLocation (points_figure positions) rule p Exterior
 exterior positions rule p h = record {
   decided_by = kind.Exterior;
   decides = (refl, refl, or-false (is_at_some p positions) ∙ h);
@@ -95,7 +100,11 @@ record IsAtOne (p : Point) (positions : List Pt) : Type 0 where
 at_one : (p : Point) (positions : List Pt) → is_at_some p positions ≡ true → IsAtOne p positions
 at_one p [] h = absurd (false≢true h)
 at_one p (q ∷ others) h = elim (or_cases (is_at p q) (is_at_some p others) h) [
-  | inl t ↦ record { q = q; same = (Decides-is_same_point p (point_of q)).0 t; fails = λ test e. (or_parts (test q) (list_any test others) e).0 }
+  | inl t ↦ record {
+    q = q;
+    same = (Decides-is_same_point p (point_of q)).0 t;
+    fails = λ test e. (or_parts (test q) (list_any test others) e).0;
+  }
   | inr t ↦ (let r = at_one p others t in
       record { q = r.q; same = r.same; fails = λ test e. r.fails test (or_parts (test q) (list_any test others) e).1 })
 ]
@@ -108,13 +117,15 @@ narrow_segment : {S T : Point → Type 0} → ((p : Point) → S p → T p) → 
 narrow_segment f h = record { a = h.a; b = h.b; apart = h.apart; held = λ p i. f p (h.held p i) }
 
 -- a set of points of a list has the dimension by whether it has a point
-finite_dimension : (S : Point → Type 0) (positions : List Pt) → ((p : Point) → S p → is_at_some p positions ≡ true) → (t : Bool) → (t ≡ true → HoldsPoint S) → (t ≡ false → ¬ HoldsPoint S) → IsDimension S (dimension_if t)
+finite_dimension : (S : Point → Type 0) (positions : List Pt) → ((p : Point) → S p → is_at_some p positions ≡ true) → (t : Bool)
+    → (t ≡ true → HoldsPoint S) → (t ≡ false → ¬ HoldsPoint S) → IsDimension S (dimension_if t)
 finite_dimension S positions f true some none =
     (λ h. finite-no-triangle positions (narrow_triangle f h), λ h. finite-no-segment positions (narrow_segment f h), some refl)
 finite_dimension S positions f false some none = none refl
 
 -- at none of two lists' positions
-free_of : (in_a in_b : List Pt) (p : Point) → is_at_some p (in_a ++ in_b) ≡ false → (is_at_some p in_a ≡ false) × (is_at_some p in_b ≡ false)
+free_of : (in_a in_b : List Pt) (p : Point) → is_at_some p (in_a ++ in_b) ≡ false
+    → (is_at_some p in_a ≡ false) × (is_at_some p in_b ≡ false)
 free_of [] in_b p h = (refl, h)
 free_of (q ∷ others) in_b p h =
     let parts = or_parts (is_at p q) (is_at_some p (others ++ in_b)) h in
@@ -136,9 +147,13 @@ module _ (in_a in_b : List Pt) (rule : Rule) where
         };
       })
       (λ t h. let r = at_one h.p in_a (location_says in_a rule h.p Interior h.held.in_a) in
-      true≢false (sym (location_says in_b rule h.p Interior h.held.in_b) ∙ is_at_some-same r.same in_b ∙ at_among r.q in_b ∙ r.fails (λ p. is_among p in_b) t))
+      true≢false (sym (location_says in_b rule h.p Interior h.held.in_b) ∙ is_at_some-same r.same in_b ∙ at_among r.q in_b
+      ∙ r.fails (λ p. is_among p in_b) t))
 
-  other_in : (in_one in_two : List Pt) (S : Point → Type 0) → ((p : Point) → S p → (is_at_some p in_one ≡ true) × (is_at_some p in_two ≡ false)) → ((p : Point) → is_at_some p in_one ≡ true → is_at_some p in_two ≡ false → S p) → IsDimension S (dimension_if (has_other in_one in_two))
+  other_in : (in_one in_two : List Pt) (S : Point → Type 0)
+      → ((p : Point) → S p → (is_at_some p in_one ≡ true) × (is_at_some p in_two ≡ false))
+      → ((p : Point) → is_at_some p in_one ≡ true → is_at_some p in_two ≡ false → S p)
+      → IsDimension S (dimension_if (has_other in_one in_two))
   other_in in_one in_two S out into =
       finite_dimension S in_one (λ p h. (out p h).0) (has_other in_one in_two)
       (λ t. let r = some_passes (λ p. not (is_among p in_two)) in_one t in record {
@@ -146,7 +161,8 @@ module _ (in_a in_b : List Pt) (rule : Rule) where
         held = into (point_of r.q) r.there (at_among r.q in_two ∙ not-true (is_among r.q in_two) r.passed);
       })
       (λ t h. let r = at_one h.p in_one (out h.p h.held).0 in
-      true≢false (sym (not-false (is_among r.q in_two) (r.fails (λ p. not (is_among p in_two)) t)) ∙ sym (at_among r.q in_two) ∙ sym (is_at_some-same r.same in_two) ∙ (out h.p h.held).1))
+      true≢false (sym (not-false (is_among r.q in_two) (r.fails (λ p. not (is_among p in_two)) t)) ∙ sym (at_among r.q in_two)
+      ∙ sym (is_at_some-same r.same in_two) ∙ (out h.p h.held).1))
 
   other_a : IsDimension (In Interior Exterior) (dimension_if (has_other in_a in_b))
   other_a =
@@ -184,7 +200,8 @@ module _ (in_a in_b : List Pt) (rule : Rule) where
 is_points_figure : (f : Figure) → f.lines ≡ [] → f.areas ≡ [] → points_figure f.points ≡ f
 is_points_figure f lines areas = sym (λ i. record { points = f.points; lines = lines i; areas = areas i })
 
-pub points_matrix : (a b : Figure) (rule : Rule) → a.lines ≡ [] → a.areas ≡ [] → b.lines ≡ [] → b.areas ≡ [] → (cell : Cell) → IsDimension (IsInCell a b rule cell) (points_dimension a.points b.points cell.a cell.b)
+pub points_matrix : (a b : Figure) (rule : Rule) → a.lines ≡ [] → a.areas ≡ [] → b.lines ≡ [] → b.areas ≡ [] → (cell : Cell)
+    → IsDimension (IsInCell a b rule cell) (points_dimension a.points b.points cell.a cell.b)
 points_matrix a b rule al aa bl ba cell =
     subst (λ (x : Figure). IsDimension (IsInCell x b rule cell) (points_dimension a.points b.points cell.a cell.b))
     (is_points_figure a al aa)

@@ -32,7 +32,8 @@ stands_onward scale bytes from [] last h = omega arith
 stands_onward scale bytes from (t ∷ ts) last h =
     omega (arith, lexeme_onward scale bytes from, stands_onward scale bytes (lexeme_at scale bytes from).«end» ts last h.1)
 
-type_onward : (scale : ℕ) (bytes : List ℕ) (from : ℕ) (kind : TypeWord) (t : Tag) (more : List Token) (last : ℕ) → Stands scale bytes from (token.Type kind t ∷ more) last → from < last
+type_onward : (scale : ℕ) (bytes : List ℕ) (from : ℕ) (kind : TypeWord) (t : Tag) (more : List Token) (last : ℕ)
+    → Stands scale bytes from (token.Type kind t ∷ more) last → from < last
 type_onward scale bytes from kind t more last h = elim (lexeme_moves scale bytes from) [
   | inl e ↦ absurd (type_is_no_end kind t (sym e ∙ h.0))
   | inr moves ↦ omega (arith, moves, stands_onward scale bytes (lexeme_at scale bytes from).«end» more last h.1)
@@ -43,11 +44,13 @@ tag_token_other : (o : Option Tag) (kind : TypeWord) (t : Tag) → tag_token o �
 tag_token_other None kind t e = cc
 tag_token_other (Some g) kind t e = cc
 
-type_token_is : (r : Option (TypeWord × Tag)) (o : Option Tag) (kind : TypeWord) (t : Tag) → type_token r o ≡ token.Type kind t → option_map (λ x. x.0) r ≡ Some kind
+type_token_is : (r : Option (TypeWord × Tag)) (o : Option Tag) (kind : TypeWord) (t : Tag) → type_token r o ≡ token.Type kind t
+    → option_map (λ x. x.0) r ≡ Some kind
 type_token_is (Some r) o kind t e = let same : r.0 ≡ kind = cc in ap Some same
 type_token_is None o kind t e = absurd (tag_token_other o kind t e)
 
-word_pick : (a b : Bool) (x : Token) (kind : TypeWord) (t : Tag) → cond a token.Empty (cond b token.Nan x) ≡ token.Type kind t → x ≡ token.Type kind t
+word_pick : (a b : Bool) (x : Token) (kind : TypeWord) (t : Tag) → cond a token.Empty (cond b token.Nan x) ≡ token.Type kind t
+    → x ≡ token.Type kind t
 word_pick true b x kind t e = absurd (no_other e)
   where
     no_other : ◌≡◌ {A = Token} token.Empty (token.Type kind t) → ⊥
@@ -58,12 +61,14 @@ word_pick false true x kind t e = absurd (no_other e)
     no_other h = cc
 word_pick false false x kind t e = e
 
-word_type : (word : List ℕ) (kind : TypeWord) (t : Tag) → word_token word ≡ token.Type kind t → option_map (λ x. x.0) (type_of word) ≡ Some kind
+word_type : (word : List ℕ) (kind : TypeWord) (t : Tag) → word_token word ≡ token.Type kind t
+    → option_map (λ x. x.0) (type_of word) ≡ Some kind
 word_type word kind t e =
     type_token_is (type_of word) (tag_of word) kind t
     (word_pick (is_name word (codes "EMPTY")) (is_name word (codes "NAN")) (type_token (type_of word) (tag_of word)) kind t e)
 
-mark_other : (a b c : Bool) (kind : TypeWord) (t : Tag) → cond a token.Open (cond b token.Close (cond c token.Comma token.Bad)) ≡ token.Type kind t → ⊥
+mark_other : (a b c : Bool) (kind : TypeWord) (t : Tag)
+    → cond a token.Open (cond b token.Close (cond c token.Comma token.Bad)) ≡ token.Type kind t → ⊥
 mark_other true b c kind t e = cc
 mark_other false true c kind t e = cc
 mark_other false false true kind t e = cc
@@ -78,17 +83,20 @@ front_pick false false w n m kind t hn hm e = absurd (hm e)
 number_other : (x : Numeral) (kind : TypeWord) (t : Tag) → token.Number x ≡ token.Type kind t → ⊥
 number_other x kind t e = cc
 
-text_type : (scale : ℕ) (text : List ℕ) (kind : TypeWord) (t : Tag) → (token_in scale text).0 ≡ token.Type kind t → option_map (λ x. x.0) (type_of (take_while is_ascii_alphabetic text)) ≡ Some kind
+text_type : (scale : ℕ) (text : List ℕ) (kind : TypeWord) (t : Tag) → (token_in scale text).0 ≡ token.Type kind t
+    → option_map (λ x. x.0) (type_of (take_while is_ascii_alphabetic text)) ≡ Some kind
 text_type scale [] kind t e = absurd (type_is_no_end kind t e)
 text_type scale (b ∷ rest) kind t e =
     word_type (take_while is_ascii_alphabetic (b ∷ rest)) kind t
     (front_pick (is_ascii_alphabetic b) (is_number_start b) (word_in (b ∷ rest)) (number_in scale (b ∷ rest)) (mark b, 1) kind t
     (λ h. number_other _ kind t h) (λ h. mark_other (b == 40) (b == 41) (b == 44) kind t h) e)
 
-pub lexeme_type : (scale : ℕ) (bytes : List ℕ) (from : ℕ) (kind : TypeWord) (t : Tag) → (lexeme_at scale bytes from).token ≡ token.Type kind t → type_at bytes from ≡ Some kind
+pub lexeme_type : (scale : ℕ) (bytes : List ℕ) (from : ℕ) (kind : TypeWord) (t : Tag)
+    → (lexeme_at scale bytes from).token ≡ token.Type kind t → type_at bytes from ≡ Some kind
 unfolding lexeme_at
 lexeme_type scale bytes from kind t e =
-    ap (λ text. option_map (λ x. x.0) (type_of (take_while is_ascii_alphabetic text))) (drop-drop (prefix_len is_white (drop from bytes)) from bytes)
+    ap (λ text. option_map (λ x. x.0) (type_of (take_while is_ascii_alphabetic text)))
+    (drop-drop (prefix_len is_white (drop from bytes)) from bytes)
     ∙ text_type scale (drop (place_of bytes from) bytes) kind t e
 
 -- ---- a geometry of points gives points alone
@@ -121,7 +129,8 @@ of_points (simple w s) k = simple_points w s k
 of_points (empty_collection w) k = absurd k
 of_points (collection w g gs) k = absurd k
 
-pub reads_points : (scale : ℕ) (bytes : List ℕ) (from : ℕ) (f : Figure) (last : ℕ) → is_unbuilt (type_at bytes from) ≡ false → Reads scale bytes from f last → HasPointsAlone f
+pub reads_points : (scale : ℕ) (bytes : List ℕ) (from : ℕ) (f : Figure) (last : ℕ) → is_unbuilt (type_at bytes from) ≡ false
+    → Reads scale bytes from f last → HasPointsAlone f
 reads_points scale bytes from f last built r =
     let (tag, more, first) = spelling_first r.geometry in
     let stands = subst (λ (u : List Token). Stands scale bytes from u last) first r.stands in

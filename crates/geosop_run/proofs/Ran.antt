@@ -1,5 +1,5 @@
 -- The steps of a run, put together.
-use Rattle.std.proofs.Common.{◌≡◌, ℕ, ◌≤◌, List, Option, Some, None, Result, Ok, Err, inl, inr, refl, sym, ap, subst, ◌∙◌}
+use Rattle.std.proofs.Common.{◌≡◌, ℕ, ◌≤◌, List, None, inl, inr, refl, sym, ap, subst, ◌∙◌}
 use Rattle.std.specs.Io.KnownBytes.{IsAtEnd}
 use Rattle.im_matrix.specs.declared.Which.{Which}
 use Rattle.im_matrix.specs.declared.Which.TheVariants.{A, B}
@@ -18,7 +18,7 @@ use Rattle.geosop_run.specs.declared.sources.SideFault.TheVariants as fault
 use Rattle.geosop_run.specs.declared.status.Refusal.{Refusal}
 use Rattle.geosop_run.specs.declared.status.Status.TheVariants as status
 use Rattle.geosop_run.specs.Command.{IsCommandOf, IsCommandFault}
-use Rattle.geosop_run.specs.Asking.{name_of, IfNamed, bytes_of, IsAskedOrNot, IsAdmittedFrom, IsReadToEnd, IsRefusedFrom, IsSideFault, side_of}
+use Rattle.geosop_run.specs.Asking.{IfNamed, bytes_of, IsAskedOrNot, IsAdmittedFrom, IsReadToEnd, IsRefusedFrom, IsSideFault, side_of}
 use Rattle.geosop_run.specs.Sources.{most_bytes, IsRefusalOf, IsFirstRefusal}
 use Rattle.geosop_run.specs.Statuses.{status_of_words, status_of_side}
 use Rattle.geosop_run.specs.Text.{IsTextOf}
@@ -33,7 +33,8 @@ named_weaker (source.File word) P Q f h = f word h
 named_weaker source.Stdin P Q f h = f _ h
 
 -- a side that was read to its end stays so
-read_stays : (side : Which) (name : List ℕ) (old new : InputsSeen) → IsSameSide side old new → IsReadToEnd side name old → IsReadToEnd side name new
+read_stays : (side : Which) (name : List ℕ) (old new : InputsSeen) → IsSameSide side old new → IsReadToEnd side name old
+    → IsReadToEnd side name new
 read_stays side name old new same h = record {
   asked = same.asked ∙ h.asked;
   started = same.started ∙ h.started;
@@ -46,7 +47,8 @@ read_stays side name old new same h = record {
 admitted_stays : (side : Which) (from : Source) (before old new : InputsSeen) (figures : List Figure) → IsSameSide side old new
     → IsAdmittedFrom side from before old figures → IsAdmittedFrom side from before new figures
 admitted_stays side from before old new figures same h = record {
-  read = named_weaker from (λ name. IsReadToEnd side name old) (λ name. IsReadToEnd side name new) (λ name. read_stays side name old new same) h.read;
+  read = named_weaker from (λ name. IsReadToEnd side name old) (λ name. IsReadToEnd side name new)
+      (λ name. read_stays side name old new same) h.read;
   admitted = h.admitted;
 }
 
@@ -129,65 +131,69 @@ module _ (words : List (List ℕ)) (s0 : InputsSeen) (o0 : SinkSeen) (a_new : s0
   pub at_words : (found : LineFault) → IsCommandFault words found → IsRun (ended_in s0 o0) (status_of_words found)
   at_words found h = run_of (ended_in s0 o0) (status_of_words found) (words_say found h) none_asked (inl b_new)
 
-  module _ (command : Config) (is : IsCommandOf words command) (s1 : InputsSeen) (others_a : KeepsOthers A s0 s1) (asked_a : IsAskedOrNot command.a (s1.asked A)) where
-    -- at A
-    pub at_a : (found : SideFault) → IsSideFault A command.a s0 s1 found → IsRun (ended_in s1 o0) (status_of_side found)
-    at_a found h =
-        let run = ended_in s1 o0 in
-        let none : s1.asked B ≡ None = others_a.other_side.asked ∙ b_new in
-        run_of run (status_of_side found) (side_says run command is A found none refl h) (both_rightly run command is asked_a (inl none)) (inl none)
+  module _ (command : Config) (is : IsCommandOf words command) (s1 : InputsSeen) (others_a : KeepsOthers A s0 s1)
+      (asked_a : IsAskedOrNot command.a (s1.asked A))
+    where
+      -- at A
+      pub at_a : (found : SideFault) → IsSideFault A command.a s0 s1 found → IsRun (ended_in s1 o0) (status_of_side found)
+      at_a found h =
+          let run = ended_in s1 o0 in
+          let none : s1.asked B ≡ None = others_a.other_side.asked ∙ b_new in
+          run_of run (status_of_side found) (side_says run command is A found none refl h) (both_rightly run command is asked_a (inl none))
+          (inl none)
 
-    module _ (in_a : List Figure) (admitted_a : IsAdmittedFrom A command.a s0 s1 in_a) (uncounted_a : s1.faults ≡ s0.faults)
-        (s2 : InputsSeen) (others_b : KeepsOthers B s1 s2) (asked_b : IsAskedOrNot command.b (s2.asked B))
-      where
-        -- A is admitted at the end too
-        still_a : (o : SinkSeen) → IsAdmittedAs (ended_in s2 o) command A in_a
-        still_a o = admitted_stays A command.a s0 s1 s2 in_a others_b.other_side admitted_a
+      module _ (in_a : List Figure) (admitted_a : IsAdmittedFrom A command.a s0 s1 in_a) (uncounted_a : s1.faults ≡ s0.faults)
+          (s2 : InputsSeen) (others_b : KeepsOthers B s1 s2) (asked_b : IsAskedOrNot command.b (s2.asked B))
+        where
+          -- A is admitted at the end too
+          still_a : (o : SinkSeen) → IsAdmittedAs (ended_in s2 o) command A in_a
+          still_a o = admitted_stays A command.a s0 s1 s2 in_a others_b.other_side admitted_a
 
-        asked_both : (o : SinkSeen) (side : Which) → IsAskedRightly (ended_in s2 o) side
-        asked_both o =
-            both_rightly (ended_in s2 o) command is (subst (IsAskedOrNot command.a) (sym others_b.other_side.asked) asked_a) asked_b
+          asked_both : (o : SinkSeen) (side : Which) → IsAskedRightly (ended_in s2 o) side
+          asked_both o =
+              both_rightly (ended_in s2 o) command is (subst (IsAskedOrNot command.a) (sym others_b.other_side.asked) asked_a) asked_b
 
-        last_asked : (o : SinkSeen) → IsLastAsked (ended_in s2 o)
-        last_asked o = inr (record { command = command; is_command = is; holds = (in_a, still_a o) })
+          last_asked : (o : SinkSeen) → IsLastAsked (ended_in s2 o)
+          last_asked o = inr (record { command = command; is_command = is; holds = (in_a, still_a o) })
 
-        -- at B
-        pub at_b : (found : SideFault) → IsSideFault B command.b s1 s2 found → IsRun (ended_in s2 o0) (status_of_side found)
-        at_b found h =
-            let run = ended_in s2 o0 in
-            let since = fault_since B command.b s0 s1 s2 found others_a.holds uncounted_a h in
-            run_of run (status_of_side found) (side_says run command is B found (in_a, still_a o0) refl since) (asked_both o0) (last_asked o0)
+          -- at B
+          pub at_b : (found : SideFault) → IsSideFault B command.b s1 s2 found → IsRun (ended_in s2 o0) (status_of_side found)
+          at_b found h =
+              let run = ended_in s2 o0 in
+              let since = fault_since B command.b s0 s1 s2 found others_a.holds uncounted_a h in
+              run_of run (status_of_side found) (side_says run command is B found (in_a, still_a o0) refl since) (asked_both o0)
+              (last_asked o0)
 
-        module _ (in_b : List Figure) (admitted_b : IsAdmittedFrom B command.b s1 s2 in_b) (uncounted_b : s2.faults ≡ s1.faults)
-            (o : SinkSeen) (text : List ℕ) (is_text : IsTextOf in_a in_b Mod2 text)
-          where
-            of_pairs : HasText (ended_in s2 o) command text
-            of_pairs = record {
-              in_a = in_a;
-              in_b = in_b;
-              admitted_a = still_a o;
-              admitted_b = admitted_since B command.b s0 s1 s2 in_b others_a.holds admitted_b;
-              is_text = is_text;
-            }
+          module _ (in_b : List Figure) (admitted_b : IsAdmittedFrom B command.b s1 s2 in_b) (uncounted_b : s2.faults ≡ s1.faults)
+              (o : SinkSeen) (text : List ℕ) (is_text : IsTextOf in_a in_b Mod2 text)
+            where
+              of_pairs : HasText (ended_in s2 o) command text
+              of_pairs = record {
+                in_a = in_a;
+                in_b = in_b;
+                admitted_a = still_a o;
+                admitted_b = admitted_since B command.b s0 s1 s2 in_b others_a.holds admitted_b;
+                is_text = is_text;
+              }
 
-            -- in the pairs
-            pub at_pairs : HasFailedAt o0 o text → IsRun (ended_in s2 o) status.WriteFault
-            at_pairs front =
-                run_of (ended_in s2 o) status.WriteFault
-                (record {
-                  command = command;
-                  is_command = is;
-                  holds = record { text = text; of_pairs = of_pairs; front = front; read_well = uncounted_b ∙ uncounted_a };
-                })
-                (asked_both o) (last_asked o)
+              -- in the pairs
+              pub at_pairs : HasFailedAt o0 o text → IsRun (ended_in s2 o) status.WriteFault
+              at_pairs front =
+                  run_of (ended_in s2 o) status.WriteFault
+                  (record {
+                    command = command;
+                    is_command = is;
+                    holds = record { text = text; of_pairs = of_pairs; front = front; read_well = uncounted_b ∙ uncounted_a };
+                  })
+                  (asked_both o) (last_asked o)
 
-            -- behind the last
-            pub at_end : o ≡ after_taking o0 text → IsRun (ended_in s2 o) status.Ok
-            at_end written =
-                run_of (ended_in s2 o) status.Ok
-                (record {
-                  command = command;
-                  is_command = is;
-                  holds = record { text = text; of_pairs = of_pairs; written = written; read_well = uncounted_b ∙ uncounted_a };
-                })
-                (asked_both o) (last_asked o)
+              -- behind the last
+              pub at_end : o ≡ after_taking o0 text → IsRun (ended_in s2 o) status.Ok
+              at_end written =
+                  run_of (ended_in s2 o) status.Ok
+                  (record {
+                    command = command;
+                    is_command = is;
+                    holds = record { text = text; of_pairs = of_pairs; written = written; read_well = uncounted_b ∙ uncounted_a };
+                  })
+                  (asked_both o) (last_asked o)

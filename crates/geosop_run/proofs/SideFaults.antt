@@ -1,18 +1,14 @@
 -- What comes of reading and admitting one side.
-use Rattle.std.proofs.Common.{◌≡◌, ℕ, ◌+◌, ◌<◌, ◌≤◌, Bool, true, false, List, [], ◌∷◌, ◌++◌, Option, Some, None, refl, sym, ap, subst, ◌∙◌, append_assoc, append-nil, length, length-append, take, arith}
-use Rattle.std.specs.Io.KnownBytes.{prepend_known, IsAtEnd}
+use Rattle.std.proofs.Common.{◌≡◌, ℕ, List, sym, subst, arith}
 use Rattle.im_matrix.specs.declared.Which.{Which}
-use Rattle.im_matrix.specs.declared.Which.TheVariants.{A, B}
-use Rattle.point_set.specs.declared.figure.Figure.{Figure}
-use Rattle.geosop_io.specs.Inputs.{InputsSeen, KeepsOthers, IsSameSide}
+use Rattle.geosop_io.specs.Inputs.{InputsSeen}
 use Rattle.geosop_run.specs.declared.config.Source.{Source}
-use Rattle.geosop_run.specs.declared.config.Source.TheVariants as source
 use Rattle.geosop_run.specs.declared.status.Refusal.{Refusal}
 use Rattle.geosop_run.specs.declared.status.Refusal.TheVariants as refusal
 use Rattle.geosop_run.specs.declared.sources.SideFault.{SideFault}
 use Rattle.geosop_run.specs.declared.sources.SideFault.TheVariants as fault
-use Rattle.geosop_run.specs.Sources.{most_bytes, IsSource, IsAdmitted, IsRefusalOf}
-use Rattle.geosop_run.specs.Asking.{name_of, IfNamed, bytes_of, AreBytesFrom, IsTextFault, IsSideFault, IsAdmittedFrom, IsReadToEnd, IsReadFor, IsRefusedFrom, IsUnreadable, side_of}
+use Rattle.geosop_run.specs.Sources.{IsRefusalOf}
+use Rattle.geosop_run.specs.Asking.{IfNamed, AreBytesFrom, IsTextFault, IsSideFault, IsReadToEnd, IsReadFor, side_of}
 
 -- a refusal is of its own side
 pub side_is : (side : Which) (bytes : List ℕ) (found : Refusal) → IsRefusalOf side bytes found → side_of found ≡ side
@@ -21,20 +17,14 @@ side_is side bytes (refusal.Text of_side number kind place) h = h.0
 side_is side bytes (refusal.Unbuilt of_side number) h = h.0
 
 -- the refusal of a side's bytes, where these are told
-told_refusal : (side : Which) (bytes told : List ℕ) (found : Refusal) → bytes ≡ told → IsRefusalOf side bytes found → IsRefusalOf (side_of found) told found
+told_refusal : (side : Which) (bytes told : List ℕ) (found : Refusal) → bytes ≡ told → IsRefusalOf side bytes found
+    → IsRefusalOf (side_of found) told found
 told_refusal side bytes told found e h =
     subst (λ (s : Which). IsRefusalOf s told found) (sym (side_is side bytes found h)) (subst (λ all. IsRefusalOf side all found) e h)
 
--- why a text gave no bytes is why its side gave none
-pub text_fault : (side : Which) (word : List ℕ) (seen : InputsSeen) (found : SideFault) → IsTextFault side word found
-    → IsSideFault side (source.Text word) seen seen found
-text_fault side word seen (fault.Refused found) h =
-    (side_is side word found h, record { read = tt; refusal = λ bytes t. told_refusal side word bytes found (cc t) h }, refl)
-text_fault side word seen fault.ReadFault h = absurd h
-text_fault side word seen fault.NoMemory h = refl
-
 -- how far a side was read that has a refusal by its text
-read_for : (side : Which) (from : Source) (bytes : List ℕ) (found : Refusal) (before after : InputsSeen) → AreBytesFrom side from before after bytes
+read_for : (side : Which) (from : Source) (bytes : List ℕ) (found : Refusal) (before after : InputsSeen)
+    → AreBytesFrom side from before after bytes
     → IsRefusalOf side bytes found → IfNamed from (λ name. IsReadFor found name after)
 read_for side from bytes (refusal.TooLong of_side) before after h k = absurd (omega (arith, h.within, k.1))
 read_for side from bytes (refusal.Text of_side number kind place) before after h k =
@@ -43,7 +33,8 @@ read_for side from bytes (refusal.Unbuilt of_side number) before after h k =
     subst (λ (s : Which). IfNamed from (λ name. IsReadToEnd s name after)) (sym k.0) h.read
 
 -- why the bytes of a side gave no figures is why the side gave none
-pub figures_fault : (side : Which) (from : Source) (bytes : List ℕ) (before after : InputsSeen) (found : SideFault) → AreBytesFrom side from before after bytes
+pub figures_fault : (side : Which) (from : Source) (bytes : List ℕ) (before after : InputsSeen) (found : SideFault)
+    → AreBytesFrom side from before after bytes
     → IsTextFault side bytes found → IsSideFault side from before after found
 figures_fault side from bytes before after (fault.Refused found) h k = (
   side_is side bytes found k,
@@ -55,11 +46,3 @@ figures_fault side from bytes before after (fault.Refused found) h k = (
 )
 figures_fault side from bytes before after fault.ReadFault h k = absurd k
 figures_fault side from bytes before after fault.NoMemory h k = h.uncounted
-
--- the bytes of a side have these figures
-pub admitted_from : (side : Which) (from : Source) (bytes : List ℕ) (before after : InputsSeen) (figures : List Figure) → AreBytesFrom side from before after bytes
-    → IsSource bytes figures → IsAdmittedFrom side from before after figures
-admitted_from side from bytes before after figures h s = record {
-  read = h.read;
-  admitted = λ told t. subst (λ all. IsAdmitted all figures) (h.told told t) (record { short = h.within; source = s });
-}

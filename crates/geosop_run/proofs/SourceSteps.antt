@@ -7,8 +7,10 @@ use Rattle.geosop_run.specs.Points.{HasPointsAlone}
 use Rattle.geosop_run.specs.Sources.{IsBuilt, AreBuilt}
 use Rattle.geosop_run.specs.Steps.{IsReadTo}
 
-built_more : (bytes : List ℕ) (at : ℕ) (figures : List Figure) (middle : ℕ) (f : Figure) (end : ℕ) → AreBuilt bytes at figures middle → IsBuilt bytes middle f end → AreBuilt bytes at (figures ++ f ∷ []) end
-built_more bytes at [] middle f end h one = record { middle = end; first = subst (λ (n : ℕ). IsBuilt bytes n f end) (sym h) one; rest = refl }
+built_more : (bytes : List ℕ) (at : ℕ) (figures : List Figure) (middle : ℕ) (f : Figure) (end : ℕ) → AreBuilt bytes at figures middle
+    → IsBuilt bytes middle f end → AreBuilt bytes at (figures ++ f ∷ []) end
+built_more bytes at [] middle f end h one =
+    record { middle = end; first = subst (λ (n : ℕ). IsBuilt bytes n f end) (sym h) one; rest = refl }
 built_more bytes at (g ∷ others) middle f end h one = record {
   middle = h.middle;
   first = h.first;
@@ -22,10 +24,8 @@ pub record AreReadTo (bytes : List ℕ) (figures : List Figure) (at : ℕ) : Typ
   pub built : AreBuilt bytes 0 figures at
   pub points : All HasPointsAlone figures
 
-pub read_none : (bytes : List ℕ) → AreReadTo bytes [] 0
-read_none bytes = record { within = omega arith; onward = omega arith; built = refl; points = λ k d h. absurd (omega (arith, h)) }
-
-pub read_more : (bytes : List ℕ) (figures pushed : List Figure) (at : ℕ) (f : Figure) (end : ℕ) → pushed ≡ figures ++ f ∷ [] → AreReadTo bytes figures at → IsReadTo bytes at f end → AreReadTo bytes pushed end
+pub read_more : (bytes : List ℕ) (figures pushed : List Figure) (at : ℕ) (f : Figure) (end : ℕ) → pushed ≡ figures ++ f ∷ []
+    → AreReadTo bytes figures at → IsReadTo bytes at f end → AreReadTo bytes pushed end
 read_more bytes figures pushed at f end e h one =
     subst (λ (items : List Figure). AreReadTo bytes items end) (sym e)
     (record {

@@ -30,7 +30,9 @@ module _ (m0 m1 m2 m3 : Matrix) (t1 t2 t3 : Bool)
     tabulated Interior Exterior =
         others3 (cell Interior Exterior) (λ e. let h : Interior ≡ Exterior = ap (λ (c : Cell). c.a) e in cc)
         ∙ raised2
-        ∙ ap (λ d. greater d (dimension_if t2)) (others1 (cell Interior Exterior) (λ e. let h : Exterior ≡ Interior = ap (λ (c : Cell). c.b) e in cc) ∙ start (cell Interior Exterior))
+        ∙ ap (λ d. greater d (dimension_if t2))
+        (others1 (cell Interior Exterior) (λ e. let h : Exterior ≡ Interior = ap (λ (c : Cell). c.b) e in cc)
+        ∙ start (cell Interior Exterior))
     tabulated Boundary Interior =
         others3 (cell Boundary Interior) (λ e. let h : Boundary ≡ Exterior = ap (λ (c : Cell). c.a) e in cc)
         ∙ others2 (cell Boundary Interior) (λ e. let h : Boundary ≡ Interior = ap (λ (c : Cell). c.a) e in cc)
@@ -48,7 +50,10 @@ module _ (m0 m1 m2 m3 : Matrix) (t1 t2 t3 : Bool)
         ∙ start (cell Boundary Exterior)
     tabulated Exterior Interior =
         raised3
-        ∙ ap (λ d. greater d (dimension_if t3)) (others2 (cell Exterior Interior) (λ e. let h : Exterior ≡ Interior = ap (λ (c : Cell). c.a) e in cc) ∙ others1 (cell Exterior Interior) (λ e. let h : Exterior ≡ Interior = ap (λ (c : Cell). c.a) e in cc) ∙ start (cell Exterior Interior))
+        ∙ ap (λ d. greater d (dimension_if t3))
+        (others2 (cell Exterior Interior) (λ e. let h : Exterior ≡ Interior = ap (λ (c : Cell). c.a) e in cc)
+        ∙ others1 (cell Exterior Interior) (λ e. let h : Exterior ≡ Interior = ap (λ (c : Cell). c.a) e in cc)
+        ∙ start (cell Exterior Interior))
     tabulated Exterior Boundary =
         others3 (cell Exterior Boundary) (λ e. let h : Boundary ≡ Interior = ap (λ (c : Cell). c.b) e in cc)
         ∙ others2 (cell Exterior Boundary) (λ e. let h : Exterior ≡ Interior = ap (λ (c : Cell). c.a) e in cc)

@@ -41,11 +41,11 @@ HasBytes run command side bytes = bytes_of run.inputs_before.holds (source_of_si
 abbrev pub IsAdmittedAs : Run → Config → Which → List Figure → Type 0
 IsAdmittedAs run command side figures = IsAdmittedFrom side (source_of_side command side) run.inputs_before run.inputs_after figures
 
--- No read met a fault.
+-- No fault of the inputs was counted.
 abbrev pub IsReadWell : Run → Type 0
 IsReadWell run = run.inputs_after.faults ≡ run.inputs_before.faults
 
--- Nothing was written, and no write met a fault.
+-- Nothing was written, and no fault of the output was counted.
 abbrev pub IsUnwritten : Run → Type 0
 IsUnwritten run = run.output_after ≡ run.output_before
 
@@ -57,7 +57,7 @@ pub record HasText (run : Run) (command : Config) (text : List ℕ) : Type 0 whe
   pub admitted_b : IsAdmittedAs run command B in_b
   pub is_text : IsTextOf in_a in_b Mod2 text
 
--- Ok: the output took the whole text, and no read and no write met a fault.
+-- Ok: the output took the whole text, and no fault was counted.
 pub record SaysOk (run : Run) (command : Config) : Type 0 where
   pub text : List ℕ
   pub of_pairs : HasText run command text
@@ -75,8 +75,8 @@ abbrev pub HasComeTo : Run → Config → Which → Type 0
 HasComeTo run command A = run.inputs_after.asked B ≡ None
 HasComeTo run command B = (figures : List Figure) × IsAdmittedAs run command A figures
 
--- Refused: this is the refusal of its side, whatever the other side is, and of both the first. Nothing was written, and no read met
--- a fault.
+-- Refused: this is the refusal of its side, whatever the other side is, and of both the first. Nothing was written, and no fault was
+-- counted.
 pub record SaysRefused (run : Run) (command : Config) (found : Refusal) : Type 0 where
   pub come : HasComeTo run command (side_of found)
   pub refused : IsRefusedFrom (source_of_side command (side_of found)) run.inputs_before run.inputs_after found
@@ -91,7 +91,7 @@ pub record SaysReadFault (run : Run) (command : Config) : Type 0 where
   pub unreadable : IsUnreadable side (source_of_side command side) run.inputs_before run.inputs_after
   pub unwritten : IsUnwritten run
 
--- WriteFault: the output took a front of the text, and then counted one fault. No read met a fault.
+-- WriteFault: the output took a front of the text, and then counted one fault. The inputs counted none.
 pub record SaysWriteFault (run : Run) (command : Config) : Type 0 where
   pub text : List ℕ
   pub of_pairs : HasText run command text
@@ -104,7 +104,7 @@ pub record HasBegun (run : Run) (command : Config) : Type 0 where
   pub of_pairs : HasText run command text
   pub front : HasTakenFront run.output_before run.output_after text
 
--- NoMemory: nothing was written, or a front of the text where both sides are admitted. No read and no write met a fault.
+-- NoMemory: nothing was written, or a front of the text where both sides are admitted. No fault was counted.
 pub record SaysNoMemory (run : Run) (command : Config) : Type 0 where
   pub written : IsUnwritten run ⊎ HasBegun run command
   pub read_well : IsReadWell run

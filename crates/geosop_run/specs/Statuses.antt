@@ -73,7 +73,8 @@ line_feed = 10 ∷ []
 abbrev pub refusal_pieces : Refusal → List (List ℕ)
 refusal_pieces (refusal.TooLong side) = codes "geosop: " ∷ side_name side ∷ codes ": TooLong" ∷ line_feed ∷ []
 refusal_pieces (refusal.Text side number kind place) =
-    codes "geosop: " ∷ side_name side ∷ codes " " ∷ decimal number ∷ codes ": " ∷ kind_name kind ∷ codes " at " ∷ decimal place ∷ line_feed ∷ []
+    codes "geosop: " ∷ side_name side ∷ codes " " ∷ decimal number ∷ codes ": "
+    ∷ kind_name kind ∷ codes " at " ∷ decimal place ∷ line_feed ∷ []
 refusal_pieces (refusal.Unbuilt side number) =
     codes "geosop: " ∷ side_name side ∷ codes " " ∷ decimal number ∷ codes ": Unbuilt" ∷ line_feed ∷ []
 

@@ -20,7 +20,9 @@ impl From<NoMemory> for LineFault {
 
 /// The values of `-a` and `-b`, where the words are those of a command.
 fn command_values(words: &[String]) -> Option<(&str, &str)>
-    ensures values { MatchOption result (IsUsageFault (map string_bytes words.now) Line) (λ v. HasValues (map string_bytes words.now) v.0.now v.1.now) }
+    ensures values { MatchOption result
+        (IsUsageFault (map string_bytes words.now) Line)
+        (λ v. HasValues (map string_bytes words.now) v.0.now v.1.now) }
 {
     let [_, dash_a, a, dash_b, b, operation] = words else {
         return None;

@@ -2,14 +2,14 @@
 use Rattle.std.proofs.Common.{◌≡◌, ◌∙◌, List, ℕ, Bool, true, false, sym, refl, map, string_bytes}
 use Rattle.std.proofs.lemmas.Bool.{true≢false}
 use Rattle.std.proofs.lemmas.Result.{err_from_is_err_and}
-use Rattle.geosop_run.specs.declared.config.Config.{Config}
 use Rattle.geosop_run.specs.declared.config.LineFault.TheVariants as fault
-use Rattle.geosop_run.specs.Command.{HasValues, IsCommandOf, IsCommandFault, is_stdin, source_of}
+use Rattle.geosop_run.specs.Command.{HasValues, IsCommandFault, is_stdin, source_of}
 use Rattle.geosop_run.proofs.command.read_line.Goals as goal
 use Rattle.geosop_run.proofs.command.read_line.Goals.{else-is_stdin-via-then-is_stdin+else-is_stdin-2, else-is_stdin-via-else-is_stdin}
 
 -- words with these values, of which not both are standard input, are a command
-is_command : (words : List (List ℕ)) (a b : List ℕ) → HasValues words a b → ((is_stdin a ≡ true) → (is_stdin b ≡ true) → ⊥) → IsCommandFault words fault.NoMemory
+is_command : (words : List (List ℕ)) (a b : List ℕ) → HasValues words a b → ((is_stdin a ≡ true) → (is_stdin b ≡ true) → ⊥)
+    → IsCommandFault words fault.NoMemory
 is_command words a b values one_stdin = (
   record { a = source_of a; b = source_of b },
   record { a = a; b = b; values = values; a_is = refl; b_is = refl; one_stdin = one_stdin },

@@ -9,7 +9,8 @@ use Rattle.geosop_run.proofs.PointTexts.{reads_points, reads_onward}
 use Rattle.geosop_run.proofs.figures.admit_next.Goals as goal
 
 -- the type word at the place is of a built type
-type_built : (bytes : List ℕ) (at : ℕ) {kind : Option TypeWord} {unbuilt : Bool} → kind ≡ type_at bytes at → unbuilt ≡ is_unbuilt kind → unbuilt ≡ false → is_unbuilt (type_at bytes at) ≡ false
+type_built : (bytes : List ℕ) (at : ℕ) {kind : Option TypeWord} {unbuilt : Bool} → kind ≡ type_at bytes at → unbuilt ≡ is_unbuilt kind
+    → unbuilt ≡ false → is_unbuilt (type_at bytes at) ≡ false
 type_built bytes at named tested failed = ap is_unbuilt (sym named) ∙ sym tested ∙ failed
 
 pub seal_points-requires : goal.seal_points-requires
@@ -19,7 +20,8 @@ seal_points-requires c =
     rw c.in-Ok-Some.field-0-is
     (record {
       shaped = shaped;
-      areas = (reads_points 0 c.args.bytes.now c.args.at c.in-Ok-Some.parsed.figure c.in-Ok-Some.parsed.«end» (type_built c.args.bytes.now c.args.at c.type_word.ensures.kind c.is_unbuilt.ensures.unbuilt c.if-is_unbuilt.false) read).areas;
+      areas = (reads_points 0 c.args.bytes.now c.args.at c.in-Ok-Some.parsed.figure c.in-Ok-Some.parsed.«end»
+          (type_built c.args.bytes.now c.args.at c.type_word.ensures.kind c.is_unbuilt.ensures.unbuilt c.if-is_unbuilt.false) read).areas;
     })
 
 pub returns-in-Ok-Some : goal.returns-in-Ok-Some
@@ -34,8 +36,13 @@ returns-in-Ok-Some c =
     (record {
       next = subst (λ (g : Figure). IsReadTo bytes c.args.at g last) (sym same)
           (record {
-            built = record { built = type_built c.args.bytes.now c.args.at c.type_word.ensures.kind c.is_unbuilt.ensures.unbuilt c.if-is_unbuilt.false; reads = read };
-            points = reads_points 0 bytes c.args.at f last (type_built c.args.bytes.now c.args.at c.type_word.ensures.kind c.is_unbuilt.ensures.unbuilt c.if-is_unbuilt.false) read;
+            built = record {
+              built = type_built c.args.bytes.now c.args.at c.type_word.ensures.kind c.is_unbuilt.ensures.unbuilt
+                  c.if-is_unbuilt.false;
+              reads = read;
+            };
+            points = reads_points 0 bytes c.args.at f last
+                (type_built c.args.bytes.now c.args.at c.type_word.ensures.kind c.is_unbuilt.ensures.unbuilt c.if-is_unbuilt.false) read;
             onward = reads_onward 0 bytes c.args.at f last read;
             within = within;
           });

@@ -32,5 +32,6 @@ returns-in_err-offer_row g c =
     (record {
       offered = text_failed p.0 (λ a. IsRowOf a c.args.in_b.now Mod2) c.args.in_a.now c.loop-a.a-index _ _ _ _ _ row.text c.a-item.is
           c.loop-a-test.true c.loop-a.invariant row.is_text row.offered.front
-          (some_text_of rest c.args.in_b.now Mod2 (All-drop HasPointsAlone (c.loop-a.a-index + 1) c.args.in_a.now c.requires.a_points) c.requires.b_points);
+          (some_text_of rest c.args.in_b.now Mod2
+          (All-drop HasPointsAlone (c.loop-a.a-index + 1) c.args.in_a.now c.requires.a_points) c.requires.b_points);
     })

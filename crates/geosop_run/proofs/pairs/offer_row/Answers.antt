@@ -32,5 +32,6 @@ returns-in_err-offer_pair g c =
     (record {
       offered = text_failed p.0 (λ b. IsLineOf c.args.a.now b Mod2) c.args.in_b.now c.loop-b.b-index _ _ _ _ _ line.text c.b-item.is
           c.loop-b-test.true c.loop-b.invariant line.is_text line.offered.front
-          (some_row c.args.a.now rest Mod2 c.requires.a_points (All-drop HasPointsAlone (c.loop-b.b-index + 1) c.args.in_b.now c.requires.b_points));
+          (some_row c.args.a.now rest Mod2 c.requires.a_points
+          (All-drop HasPointsAlone (c.loop-b.b-index + 1) c.args.in_b.now c.requires.b_points));
     })

@@ -1,5 +1,5 @@
 -- The table is that of the two sets of points.
-use Rattle.std.proofs.Common.{◌∙◌, ◌≡◌, ap, subst, sym}
+use Rattle.std.proofs.Common.{◌∙◌, ap, subst, sym}
 use Rattle.im_matrix.specs.declared.Dim.{Dim}
 use Rattle.point_set.specs.declared.figure.Figure.{Figure}
 use Rattle.point_set.specs.Dimension.{IsDimension}
@@ -18,5 +18,6 @@ returns c =
       matrix = λ rule cell.
           subst (λ (d : Dim). IsDimension (IsInCell a b rule cell) d)
           (sym (c.tabulate.ensures.cells cell.a cell.b ∙ (λ i. points_dimension (in_a i) (in_b i) cell.a cell.b)))
-          (points_matrix a b rule c.requires.a_points.lines c.requires.a_points.areas c.requires.b_points.lines c.requires.b_points.areas cell);
+          (points_matrix a b rule c.requires.a_points.lines c.requires.a_points.areas c.requires.b_points.lines c.requires.b_points.areas
+          cell);
     }

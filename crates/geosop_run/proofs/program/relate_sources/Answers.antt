@@ -8,7 +8,8 @@ use Rattle.geosop_run.proofs.Ran.{at_words, at_a, at_b, at_pairs, at_end}
 use Rattle.geosop_run.proofs.program.relate_sources.Goals as goal
 
 -- a text is that of equal lists
-same_text : {xs in_a ys in_b : List Figure} (text : List ℕ) → xs ≡ in_a → ys ≡ in_b → IsTextOf xs ys Mod2 text → IsTextOf in_a in_b Mod2 text
+same_text : {xs in_a ys in_b : List Figure} (text : List ℕ) → xs ≡ in_a → ys ≡ in_b → IsTextOf xs ys Mod2 text
+    → IsTextOf in_a in_b Mod2 text
 same_text {xs} {in_a} {ys} {in_b} text e f h =
     subst (λ (zs : List Figure). IsTextOf zs in_b Mod2 text) e (subst (λ (zs : List Figure). IsTextOf xs zs Mod2 text) f h)
 
