@@ -1,5 +1,5 @@
 -- The first token that the reader doesn't take is the first faulty one, and of its kind.
-use Rattle.std.proofs.Common.{◌≡◌, ℕ, zero, suc, nat_lt, cond, Bool, true, false, Option, Some, None, Ok, List, [], ◌∷◌, ◌++◌, ◌⊎◌, inl, inr, refl, sym, ap, subst, ◌∙◌}
+use Rattle.std.proofs.Common.{◌≡◌, ℕ, zero, suc, nat_lt, cond, Bool, true, false, Option, Some, None, option_map, Ok, List, [], ◌∷◌, ◌++◌, ◌⊎◌, inl, inr, refl, sym, ap, subst, ◌∙◌}
 use Rattle.std.proofs.lemmas.List.{append_assoc, same_from_push}
 use Rattle.std.proofs.lemmas.Option.{none-some, some_pair_parts}
 use Rattle.wkt_text.specs.declared.word.TypeWord.{TypeWord}
@@ -9,7 +9,7 @@ use Rattle.wkt_text.specs.declared.word.Tag.TheVariants.{Plain, Z, M, Zm}
 use Rattle.wkt_text.specs.declared.token.Token.{Token}
 use Rattle.wkt_text.specs.declared.token.Token.TheVariants as token
 use Rattle.wkt_text.specs.declared.state.Role.{Role}
-use Rattle.wkt_text.specs.declared.state.Role.TheVariants.{Head, Deep, Demanded}
+use Rattle.wkt_text.specs.declared.state.Role.TheVariants.{Head, Deep, Demanded, Mark}
 use Rattle.wkt_text.specs.declared.state.Rings.TheVariants.{Shell, Hole, Hollow}
 use Rattle.wkt_text.specs.declared.state.Membership.TheVariants.{Alone, Member}
 use Rattle.wkt_text.specs.declared.state.RingKind.TheVariants as ring
@@ -21,7 +21,7 @@ use Rattle.wkt_text.specs.declared.state.Control.{Control}
 use Rattle.wkt_text.specs.declared.control.WktKind.{WktKind}
 use Rattle.wkt_text.specs.declared.control.WktKind.TheVariants.{Syntax, UnknownType, Ragged}
 use Rattle.wkt_text.specs.declared.build.Build.{Build}
-use Rattle.wkt_text.specs.Machine.{Next, advance, advance_by, at_after, at_body, refused_kind, refused_by, step_ended, second_role}
+use Rattle.wkt_text.specs.Machine.{Next, advance, advance_by, at_after, at_body, refused_kind, refused_by, step_ended, second_role, opened, depth_after, step_tagged, inner, to, bare, at_more, after_two, end_role, after_close_of, after_comma, outer}
 use Rattle.wkt_text.proofs.Moves.{Move, move, tokens_in, course}
 use Rattle.wkt_text.proofs.Alike.{AreAlike, alike, alike_tokens, first_move, first_slot, split_slots, split_moves, third_of_role, third_of_rule}
 use Rattle.wkt_text.proofs.Agree.{Agrees, IsFigureOf, agrees}
@@ -197,146 +197,107 @@ ended_not_full : (d : ℕ) → IsNotFull (step_ended d)
 ended_not_full zero = tt
 ended_not_full (suc d) = tt
 
-fact_after : (step : Step) (s : Site) (d : ℕ) (tag : Tag) (t : Token) (from_step : Step) → Fact step tag (at_after (at from_step s d tag) t)
-fact_after step site.Top d tag token.Comma f = tt
-fact_after step site.Top zero tag token.Close f = tt
-fact_after step site.Top (suc d) tag token.Close f = ended_not_full d
-fact_after step site.Top d tag other f = tt
-fact_after step site.Point d tag token.Close f = ended_not_full d
-fact_after step site.Point d tag other f = tt
-fact_after step (site.Line Alone) d tag token.Close f = ended_not_full d
-fact_after step (site.Line Member) d tag token.Close f = tt
-fact_after step (site.Line many) d tag other f = tt
-fact_after step site.Points d tag token.Close f = ended_not_full d
-fact_after step site.Points d tag other f = tt
-fact_after step site.Element d tag token.Close f = tt
-fact_after step site.Element d tag other f = tt
-fact_after step site.Lines d tag token.Close f = ended_not_full d
-fact_after step site.Lines d tag other f = tt
-fact_after step site.Polygons d tag token.Close f = ended_not_full d
-fact_after step site.Polygons d tag other f = tt
-fact_after step (site.Polygon Alone Shell) d tag token.Close f = ended_not_full d
-fact_after step (site.Polygon Alone Hole) d tag token.Close f = ended_not_full d
-fact_after step (site.Polygon Alone Hollow) d tag token.Close f = ended_not_full d
-fact_after step (site.Polygon Member Shell) d tag token.Close f = tt
-fact_after step (site.Polygon Member Hole) d tag token.Close f = tt
-fact_after step (site.Polygon Member Hollow) d tag token.Close f = tt
-fact_after step (site.Polygon many Shell) d tag other f = tt
-fact_after step (site.Polygon many Hole) d tag other f = tt
-fact_after step (site.Polygon many Hollow) d tag other f = tt
-fact_after step (site.Ring many ring.Shell) d tag token.Close f = tt
-fact_after step (site.Ring many ring.Hole) d tag token.Close f = tt
-fact_after step (site.Ring many kind) d tag other f = tt
+closed_fact : (s : Site) (c : Control) (step : Step) (tag : Tag) → ThirdFact (third_of_role (end_role s)) step tag (after_close_of c s).step
+closed_fact site.Top c step tag = ended_not_full (outer c.depth)
+closed_fact (site.Line Alone) c step tag = ended_not_full c.depth
+closed_fact (site.Line Member) c step tag = tt
+closed_fact site.Element c step tag = tt
+closed_fact (site.Polygon Alone Shell) c step tag = ended_not_full c.depth
+closed_fact (site.Polygon Alone Hole) c step tag = ended_not_full c.depth
+closed_fact (site.Polygon Alone Hollow) c step tag = ended_not_full c.depth
+closed_fact (site.Polygon Member Shell) c step tag = tt
+closed_fact (site.Polygon Member Hole) c step tag = tt
+closed_fact (site.Polygon Member Hollow) c step tag = tt
+closed_fact (site.Ring many ring.Shell) c step tag = tt
+closed_fact (site.Ring many ring.Hole) c step tag = tt
+closed_fact other c step tag = ended_not_full c.depth
 
-fact_body : (step : Step) (kind : TypeWord) (s : Site) (d : ℕ) (tag : Tag) (t : Token) (from_step : Step) →
-    Fact step tag (at_body (at from_step s d tag) kind t)
-fact_body step type.Point s d tag token.Empty f = ended_not_full d
-fact_body step type.LineString s d tag token.Empty f = ended_not_full d
-fact_body step type.Polygon s d tag token.Empty f = ended_not_full d
-fact_body step type.MultiPoint s d tag token.Empty f = ended_not_full d
-fact_body step type.MultiLineString s d tag token.Empty f = ended_not_full d
-fact_body step type.MultiPolygon s d tag token.Empty f = ended_not_full d
-fact_body step type.GeometryCollection s zero tag token.Empty f = tt
-fact_body step type.GeometryCollection s (suc d) tag token.Empty f = ended_not_full d
-fact_body step type.Point s d tag other f = tt
-fact_body step type.LineString s d tag other f = tt
-fact_body step type.Polygon s d tag other f = tt
-fact_body step type.MultiPoint s d tag other f = tt
-fact_body step type.MultiLineString s d tag other f = tt
-fact_body step type.MultiPolygon s d tag other f = tt
-fact_body step type.GeometryCollection s d tag other f = tt
+comma_fact : (s : Site) (c : Control) (step : Step) (tag : Tag) → Fact step tag (option_map (λ u. (Mark, to c u c.site)) (after_comma s))
+comma_fact (site.Polygon many Shell) c step tag = tt
+comma_fact (site.Polygon many Hole) c step tag = tt
+comma_fact (site.Polygon many Hollow) c step tag = tt
+comma_fact other c step tag = tt
+
+fact_after : (step : Step) (c : Control) (tag : Tag) (t : Token) → Fact step tag (at_after c t)
+fact_after step c tag token.Comma = comma_fact c.site c step tag
+fact_after step c tag token.Close = closed_fact c.site (to c After c.site) step tag
+fact_after step c tag other = tt
+
+opened_fact : (step : Step) (tag : Tag) (c : Control) (kind : TypeWord) → Fact step tag (Some (opened c kind))
+opened_fact step tag c type.Point = tt
+opened_fact step tag c other = tt
+
+fact_body : (step : Step) (kind : TypeWord) (c : Control) (tag : Tag) (t : Token) → Fact step tag (at_body c kind t)
+fact_body step kind c tag token.Empty = ended_not_full (depth_after kind c.depth)
+fact_body step kind c tag token.Open = opened_fact step tag c kind
+fact_body step kind c tag other = tt
 
 fact_head : (b : Bool) (step next : Step) (tag : Tag) → IsNotFull next → ThirdFact (third_of_role (cond b Head Deep)) step tag next
 fact_head true step next tag h = h
 fact_head false step next tag h = h
 
+tagged_not_full : (kind : TypeWord) (tag : Tag) → IsNotFull (step_tagged kind tag)
+tagged_not_full kind Plain = tt
+tagged_not_full kind other = tt
+
 fact_start : (s : Site) (d : ℕ) (tag : Tag) (t : Token) → Fact Start tag (advance_by Start (at Start s d tag) t)
-fact_start s d tag (token.Type type.GeometryCollection Plain) = fact_head (nat_lt d most_depth) Start _ tag tt
-fact_start s d tag (token.Type type.GeometryCollection Z) = fact_head (nat_lt d most_depth) Start _ tag tt
-fact_start s d tag (token.Type type.GeometryCollection M) = fact_head (nat_lt d most_depth) Start _ tag tt
-fact_start s d tag (token.Type type.GeometryCollection Zm) = fact_head (nat_lt d most_depth) Start _ tag tt
-fact_start s d tag (token.Type kind Plain) = tt
-fact_start s d tag (token.Type kind Z) = tt
-fact_start s d tag (token.Type kind M) = tt
-fact_start s d tag (token.Type kind Zm) = tt
+fact_start s d tag (token.Type type.GeometryCollection u) =
+    fact_head (nat_lt d most_depth) Start _ tag (tagged_not_full type.GeometryCollection u)
+fact_start s d tag (token.Type kind u) = tagged_not_full kind u
 fact_start s d tag other = tt
 
+inner_fact : (s : Site) (c : Control) (tag : Tag) → Fact Item tag (option_map (λ r. (Mark, to c r.0 r.1)) (inner s))
+inner_fact (site.Polygon many Shell) c tag = tt
+inner_fact (site.Polygon many Hole) c tag = tt
+inner_fact (site.Polygon many Hollow) c tag = tt
+inner_fact other c tag = tt
+
+bare_fact : (s : Site) (c : Control) (tag : Tag) → Fact Item tag (bare c s)
+bare_fact site.Points c tag = tt
+bare_fact other c tag = tt
+
 fact_item : (s : Site) (d : ℕ) (tag : Tag) (t : Token) → Fact Item tag (advance_by Item (at Item s d tag) t)
-fact_item site.Points d tag token.Open = tt
-fact_item site.Points d tag (token.Number n) = tt
-fact_item site.Lines d tag token.Open = tt
-fact_item site.Polygons d tag token.Open = tt
-fact_item (site.Polygon many Shell) d tag token.Open = tt
-fact_item (site.Polygon many Hole) d tag token.Open = tt
-fact_item (site.Polygon many Hollow) d tag t = fact_hollow t
-  where
-    fact_hollow : (t : Token) → Fact Item tag (advance_by Item (at Item (site.Polygon many Hollow) d tag) t)
-    fact_hollow token.Open = tt
-    fact_hollow other = tt
-fact_item site.Points d tag other = tt
-fact_item site.Lines d tag other = tt
-fact_item site.Polygons d tag other = tt
-fact_item (site.Polygon many Shell) d tag other = tt
-fact_item (site.Polygon many Hole) d tag other = tt
-fact_item site.Top d tag token.Open = tt
-fact_item site.Top d tag other = tt
-fact_item site.Point d tag token.Open = tt
-fact_item site.Point d tag other = tt
-fact_item (site.Line many) d tag token.Open = tt
-fact_item (site.Line many) d tag other = tt
-fact_item site.Element d tag token.Open = tt
-fact_item site.Element d tag other = tt
-fact_item (site.Ring many kind) d tag token.Open = tt
-fact_item (site.Ring many kind) d tag other = tt
+fact_item s d tag token.Open = inner_fact s (at Item s d tag) tag
+fact_item s d tag (token.Number n) = bare_fact s (at Item s d tag) tag
+fact_item s d tag other = tt
 
 fact_second : (s : Site) (tag : Tag) → ThirdFact (third_of_role (second_role s)) Second tag Two
 fact_second site.Point tag = tt
-fact_second site.Points tag = tt
-fact_second site.Element tag = tt
 fact_second other tag = tt
 
-fact_more : (s : Site) (d : ℕ) (tag : Tag) (t : Token) → Fact Two tag (advance_by Two (at Two s d tag) t)
-fact_more s d Plain (token.Number n) = tt
-fact_more s d Plain token.Nan = tt
-fact_more s d Plain other = fact_after Two s d Plain other Two
-fact_more s d Z (token.Number n) = (tt, tt)
-fact_more s d Z token.Nan = (tt, tt)
-fact_more s d Z other = tt
-fact_more s d M (token.Number n) = (tt, tt)
-fact_more s d M token.Nan = (tt, tt)
-fact_more s d M other = tt
-fact_more s d Zm (token.Number n) = (tt, tt)
-fact_more s d Zm token.Nan = (tt, tt)
-fact_more s d Zm other = tt
+fact_more : (step next : Step) (s : Site) (d : ℕ) (tag : Tag) (t : Token) → IsLate next → (IsTagged tag → IsDemanding step tag) →
+    Fact step tag (at_more (at step s d tag) next t)
+fact_more step next s d Plain (token.Number n) late tagged = late
+fact_more step next s d Plain token.Nan late tagged = late
+fact_more step next s d Plain other late tagged = fact_after step (at step s d Plain) Plain other
+fact_more step next s d Z (token.Number n) late tagged = (tagged tt, late)
+fact_more step next s d Z token.Nan late tagged = (tagged tt, late)
+fact_more step next s d Z other late tagged = tt
+fact_more step next s d M (token.Number n) late tagged = (tagged tt, late)
+fact_more step next s d M token.Nan late tagged = (tagged tt, late)
+fact_more step next s d M other late tagged = tt
+fact_more step next s d Zm (token.Number n) late tagged = (tagged tt, late)
+fact_more step next s d Zm token.Nan late tagged = (tagged tt, late)
+fact_more step next s d Zm other late tagged = tt
 
-fact_last : (s : Site) (d : ℕ) (tag : Tag) (t : Token) → Fact Three tag (advance_by Three (at Three s d tag) t)
-fact_last s d Plain (token.Number n) = tt
-fact_last s d Plain token.Nan = tt
-fact_last s d Plain other = fact_after Three s d Plain other Three
-fact_last s d Z (token.Number n) = (tt, tt)
-fact_last s d Z token.Nan = (tt, tt)
-fact_last s d Z other = tt
-fact_last s d M (token.Number n) = (tt, tt)
-fact_last s d M token.Nan = (tt, tt)
-fact_last s d M other = tt
-fact_last s d Zm (token.Number n) = (tt, tt)
-fact_last s d Zm token.Nan = (tt, tt)
-fact_last s d Zm other = tt
+two_late : (tag : Tag) → IsLate (after_two tag)
+two_late Plain = tt
+two_late other = tt
 
 fact : (step : Step) (s : Site) (d : ℕ) (tag : Tag) (t : Token) → Fact step tag (advance_by step (at step s d tag) t)
 fact Start s d tag t = fact_start s d tag t
 fact (Tagged kind) s d tag (token.Tag u) = tt
-fact (Tagged kind) s d tag other = fact_body (Tagged kind) kind s d tag other (Tagged kind)
-fact (Body kind) s d tag t = fact_body (Body kind) kind s d tag t (Body kind)
+fact (Tagged kind) s d tag other = fact_body (Tagged kind) kind (at (Tagged kind) s d tag) tag other
+fact (Body kind) s d tag t = fact_body (Body kind) kind (at (Body kind) s d tag) tag t
 fact Item s d tag t = fact_item s d tag t
 fact First s d tag (token.Number n) = tt
 fact First s d tag other = tt
 fact Second s d tag (token.Number n) = fact_second s tag
 fact Second s d tag other = tt
-fact Two s d tag t = fact_more s d tag t
-fact Three s d tag t = fact_last s d tag t
-fact After s d tag t = fact_after After s d tag t After
-fact Full s d tag t = fact_after Full s d tag t Full
+fact Two s d tag t = fact_more Two (after_two tag) s d tag t (two_late tag) (λ h. h)
+fact Three s d tag t = fact_more Three Full s d tag t tt (λ h. h)
+fact After s d tag t = fact_after After (at After s d tag) tag t
+fact Full s d tag t = fact_after Full (at Full s d tag) tag t
 fact Done s d tag t = tt
 
 -- What is so of a token that the reader takes, by its rule.
@@ -385,13 +346,7 @@ cause Three Zm t = inr (inl (inl tt, refl))
 cause Full tag (token.Number n) = inr (inl (inr (tt, tt), refl))
 cause Full tag token.Nan = inr (inl (inr (tt, tt), refl))
 cause Full tag other = inr (inr (λ a b. b, λ a. a, λ a b. a, refl))
-cause (Tagged kind) tag t = inr (inr (λ a b. b, λ a. a, λ a b. b, refl))
-cause (Body kind) tag t = inr (inr (λ a b. b, λ a. a, λ a b. b, refl))
-cause Item tag t = inr (inr (λ a b. b, λ a. a, λ a b. b, refl))
-cause First tag t = inr (inr (λ a b. b, λ a. a, λ a b. b, refl))
-cause Second tag t = inr (inr (λ a b. b, λ a. a, λ a b. b, refl))
-cause After tag t = inr (inr (λ a b. b, λ a. a, λ a b. b, refl))
-cause Done tag t = inr (inr (λ a b. b, λ a. a, λ a b. b, refl))
+cause other tag t = inr (inr (λ a b. b, λ a. a, λ a b. b, refl))
 
 -- A type word may stand at the start, and a demanded ordinate where the tag demands one.
 start_expected : (ts : List Token) (step : Step) (s : Site) (d : ℕ) (tag : Tag) (b : Build) → Taken ts (at step s d tag) b →
@@ -400,16 +355,7 @@ unfolding advance
 start_expected ts Start s d tag b k h =
     let (rule, n) = taken_continues ts (at Start s d tag) (at (Body type.Point) s d Z) b (token.Type type.Point Z) Head k refl in
     record { kind = type.Point; tag = Z; rule = rule; continues = n }
-start_expected ts (Tagged kind) s d tag b k h = elim h [ ]
-start_expected ts (Body kind) s d tag b k h = elim h [ ]
-start_expected ts Item s d tag b k h = elim h [ ]
-start_expected ts First s d tag b k h = elim h [ ]
-start_expected ts Second s d tag b k h = elim h [ ]
-start_expected ts Two s d tag b k h = elim h [ ]
-start_expected ts Three s d tag b k h = elim h [ ]
-start_expected ts After s d tag b k h = elim h [ ]
-start_expected ts Full s d tag b k h = elim h [ ]
-start_expected ts Done s d tag b k h = elim h [ ]
+start_expected ts other s d tag b k h = absurd h
 
 -- A demanded ordinate has the rule of one.
 demanded_rule : (rule : TokenRule) → Some true ≡ third_of_rule rule → rule ≡ demanded
@@ -436,17 +382,9 @@ demanded_expected ts Two s d Zm b k h = nan_demanded ts (at Two s d Zm) (at Thre
 demanded_expected ts Three s d Z b k h = nan_demanded ts (at Three s d Z) (at Full s d Z) b k refl
 demanded_expected ts Three s d M b k h = nan_demanded ts (at Three s d M) (at Full s d M) b k refl
 demanded_expected ts Three s d Zm b k h = nan_demanded ts (at Three s d Zm) (at Full s d Zm) b k refl
-demanded_expected ts Two s d Plain b k h = elim h [ ]
-demanded_expected ts Three s d Plain b k h = elim h [ ]
-demanded_expected ts Start s d tag b k h = elim h [ ]
-demanded_expected ts (Tagged kind) s d tag b k h = elim h [ ]
-demanded_expected ts (Body kind) s d tag b k h = elim h [ ]
-demanded_expected ts Item s d tag b k h = elim h [ ]
-demanded_expected ts First s d tag b k h = elim h [ ]
-demanded_expected ts Second s d tag b k h = elim h [ ]
-demanded_expected ts After s d tag b k h = elim h [ ]
-demanded_expected ts Full s d tag b k h = elim h [ ]
-demanded_expected ts Done s d tag b k h = elim h [ ]
+demanded_expected ts Two s d Plain b k h = absurd h
+demanded_expected ts Three s d Plain b k h = absurd h
+demanded_expected ts other s d tag b k h = absurd h
 
 refused_by_reader : (ts : List Token) (c : Control) (b : Build) (t : Token) → Taken ts c b → advance c t ≡ None → IsRefused ts t
 refused_by_reader ts c b t k e rule n = let m = continues_taken ts c b t rule k n in none-some _ (sym e ∙ m.next)
