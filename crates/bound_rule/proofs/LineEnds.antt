@@ -3,14 +3,12 @@ use Rattle.std.proofs.Common.{◌≡◌, ◌+◌, ◌-◌, ◌<◌, ◌≤◌, g
 use Rattle.std.specs.Prelude.{slice_get, sum_by}
 use Rattle.std.specs.List.{list_all}
 use Rattle.std.specs.List.Sorted.{IsPermutation}
-use Rattle.std.proofs.Math.Nat.{dvd-one}
 use Rattle.std.proofs.lemmas.Bool.{false_from_ne_true}
 use Rattle.std.proofs.lemmas.List.{length-append, append_assoc, append-nil, drop_all, at_drop_more}
 use Rattle.std.proofs.lemmas.List.Sums.{sum_by-cons}
 use Rattle.std.proofs.lemmas.List.Sorted.{sum_by-IsPermutation, length_permutation, IsPermutation-refl, IsPermutation-trans, IsPermutation-push_more, IsPermutation-append_left}
-use Rattle.whole_algebra.proofs.Divisors.{Reduced, reduced_same}
 use Rattle.plane_laws.proofs.Points.Same.{Decides-is_same_point}
-use Rattle.plane_laws.proofs.Points.Numbers.{same_numbers}
+use Rattle.plane_exact.proofs.Laws.{node_at_position}
 use Rattle.plane_exact.specs.NodePoints.{point_at}
 use Rattle.plane_exact.specs.Places.{point_of}
 use Rattle.plane_laws.specs.Plane.{Point, IsSamePoint}
@@ -69,14 +67,6 @@ count-permutation p ends others same = as_sum others ∙ sum_by-IsPermutation (�
     as_sum : (xs : List Pt) → count_at p xs ≡ sum_by (λ q. cond (is_at p q) 1 0) xs
     as_sum [] = refl
     as_sum (q ∷ xs) = ap (λ (n : ℕ). cond (is_at p q) 1 0 + n) (as_sum xs) ∙ sym (sum_by-cons (λ r. cond (is_at p r) 1 0) q xs)
-
--- a node that is the same point as a position is that position
-node_at_position : (n : Node) (p : Pt) → IsSamePoint (point_at n) (point_of p) → point_at n ≡ point_of p
-node_at_position n p same =
-    let reduced : Reduced n.x n.y n.w = λ d x y w. dvd-one.1 (n.reduced.only d x y w) in
-    let whole : Reduced p.x p.y (pos 1) = λ d x y w. w in
-    let numbers = reduced_same n.x n.y n.w p.x p.y (pos 1) reduced whole n.across.heavy (point_of p).heavy same.across same.above in
-    same_numbers (point_at n) (point_of p) numbers.0 numbers.1 numbers.2
 
 -- at a node that is no position there is none
 pub count-none : (n : Node) → ((p : Pt) → ¬ (point_at n ≡ point_of p)) → (ends : List Pt) → count_at (point_at n) ends ≡ 0

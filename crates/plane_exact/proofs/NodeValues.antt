@@ -1,11 +1,14 @@
 -- Nodes as values: a node is its three numbers, and reduced numbers of one point are the same.
-use Rattle.std.proofs.Common.{◌≡◌, ℤ, ap, subst}
+use Rattle.std.proofs.Common.{◌≡◌, ℤ, pos, ap, subst}
 use lib.Dec.{T_prop}
 use native.Mathlib.Nat.{ℕ_set}
 use Rattle.std.proofs.Math.Nat.{dvd-one}
 use Rattle.whole_algebra.proofs.Divisors.{Reduced, reduced_same}
 use Rattle.plane_exact.specs.Nodes.{IsFraction, IsReduced}
+use Rattle.plane_laws.proofs.Points.Numbers.{same_numbers}
 use Rattle.plane_exact.specs.NodePoints.{point_at}
+use Rattle.plane_exact.specs.Places.{point_of}
+use Rattle.plane_exact.specs.declared.point.Pt.{Pt}
 use Rattle.plane_laws.specs.Plane.{IsSamePoint}
 use Rattle.plane_exact.specs.declared.node.Node.{Node}
 
@@ -39,3 +42,10 @@ pub one_node : (m n : Node) → IsSamePoint (point_at m) (point_at n) → m ≡ 
 one_node m n s =
     let e = reduced_same m.x m.y m.w n.x n.y n.w (reduced_of m) (reduced_of n) m.across.heavy n.across.heavy s.across s.above in
     same_node m n e.0 e.1 e.2
+
+-- a node that is the same point as a position is that position
+pub node_at_position : (n : Node) (p : Pt) → IsSamePoint (point_at n) (point_of p) → point_at n ≡ point_of p
+node_at_position n p same =
+    let whole : Reduced p.x p.y (pos 1) = λ d x y w. w in
+    let e = reduced_same n.x n.y n.w p.x p.y (pos 1) (reduced_of n) whole n.across.heavy (point_of p).heavy same.across same.above in
+    same_numbers (point_at n) (point_of p) e.0 e.1 e.2

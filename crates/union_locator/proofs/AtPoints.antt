@@ -7,9 +7,7 @@ use Rattle.std.proofs.lemmas.List.Elements.{All-head, All-tail}
 use Rattle.whole_algebra.proofs.Laws.{*ℤ_one}
 use Rattle.plane_laws.specs.Plane.{Point, IsSamePoint}
 use Rattle.plane_laws.proofs.Points.Same.{Decides-is_same_point}
-use Rattle.std.proofs.Math.Nat.{dvd-one}
-use Rattle.whole_algebra.proofs.Divisors.{Reduced, reduced_same}
-use Rattle.plane_laws.proofs.Points.Numbers.{same_numbers}
+use Rattle.plane_exact.proofs.Laws.{node_at_position}
 use Rattle.plane_exact.specs.NodePoints.{point_at}
 use Rattle.plane_exact.specs.Places.{point_of}
 use Rattle.plane_exact.specs.declared.node.Node.{Node}
@@ -100,14 +98,6 @@ none_still_at p off (line ∷ lines) =
     and_false : (b : Bool) → (b && false) ≡ false
     and_false true = refl
     and_false false = refl
-
--- a node that is the same point as a position is that position
-node_at_position : (n : Node) (p : Pt) → IsSamePoint (point_at n) (point_of p) → point_at n ≡ point_of p
-node_at_position n p same =
-    let reduced : Reduced n.x n.y n.w = λ d x y w. dvd-one.1 (n.reduced.only d x y w) in
-    let whole : Reduced p.x p.y (pos 1) = λ d x y w. w in
-    let numbers = reduced_same n.x n.y n.w p.x p.y (pos 1) reduced whole n.across.heavy (point_of p).heavy same.across same.above in
-    same_numbers (point_at n) (point_of p) numbers.0 numbers.1 numbers.2
 
 -- so a node with fractions is at no point of the figure
 pub no_position : (f : Figure) (n : Node) → ((p : Pt) → ¬ (point_at n ≡ point_of p)) → is_at_point f (point_at n) ≡ false
