@@ -1,5 +1,8 @@
 mod ByRows
+mod Differences
 mod RowEdges
+mod ShapedEdges
 mod Tally
 pub mod Touching
+mod ValidAlone
 mod ValidLocation

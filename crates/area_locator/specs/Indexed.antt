@@ -1,10 +1,10 @@
 -- Edges of an area as spans of height, and their locations.
-use Rattle.std.specs.Prelude.{◌≡◌, List, map}
+use Rattle.std.specs.Prelude.{◌≡◌, ℕ, ◌≤◌, List, length, map, slice_get, take}
 use Rattle.std.specs.Int.{int_min, int_max}
-use Rattle.std.specs.List.{filter}
+use Rattle.std.specs.List.{All, filter}
 use Rattle.im_matrix.specs.declared.Loc.{Loc}
 use Rattle.plane_exact.specs.Places.{IsInLimit}
-use Rattle.plane_laws.specs.Plane.{Point}
+use Rattle.plane_exact.specs.Plane.{Point}
 use Rattle.plane_exact.specs.declared.point.Seg.{Seg}
 use Rattle.point_set.specs.Location.{location, rings_of, edges_of_rings}
 use Rattle.point_set.specs.declared.figure.Area.{Area}
@@ -39,3 +39,14 @@ IsLocationBy edges p loc = (area : Area) → IsValidArea area → edges_of_area 
 -- The rows are those of the heights of the edges, each with the place of its edge as item.
 abbrev pub AreRowsOfEdges : List Seg → List SpanRow → Type 0
 AreRowsOfEdges edges rows = AreRowsOf (map heights_of edges) rows
+
+-- Edges, and the rows of their heights.
+pub record IsIndexed (edges : List Seg) (rows : List SpanRow) : Type 0 where
+  pub few : length edges ≤ 1048576
+  pub proper : All IsEdge edges
+  pub indexed : AreRowsOfEdges edges rows
+
+-- Two lists differ first at a place: they are the same up to it, and there they have two items, or only one of them has one.
+pub record IsFirstDifference (edges others : List Seg) (place : ℕ) : Type 0 where
+  pub same : take place edges ≡ take place others
+  pub differ : ¬ (slice_get edges place ≡ slice_get others place)

@@ -1,3 +1,4 @@
 pub mod Touches
 pub mod Validity
 pub mod Indexed
+pub mod AreaEdges

@@ -5,6 +5,7 @@ ghost use Rattle.plane_exact.specs.Places.{IsInLimit};
 ghost use Rattle.point_set.specs.Rings.{is_same_position};
 ghost use Rattle.y_index.specs.Levels.{IsLevel};
 
+use crate::ways::is_same;
 use plane_exact::{Node, Pt, Seg, Sign, on_segment, side_of};
 use y_index::Level;
 
@@ -37,13 +38,6 @@ pub(crate) fn touch_between(a: Pt, b: Pt, n: &Node, level: Level) -> Touch
         return Touch::Misses;
     }
     touch_of_edge(a, b, n, level)
-}
-
-/// Whether two positions are equal.
-fn is_same(a: Pt, b: Pt) -> bool
-    ensures same { result ≡ is_same_position a b }
-{
-    a.x == b.x && a.y == b.y
 }
 
 /// What an edge does to a node whose height it reaches.

@@ -19,18 +19,41 @@ pub record IsFloor (y w f : ℤ) : Type 0 where
 
 -- a height at most f
 pub low_iff : (y w f z : ℤ) → pos 0 <ℤ w → IsFloor y w f → (z ≤ℤ f → (z *ℤ w) ≤ℤ y) × ((z *ℤ w) ≤ℤ y → z ≤ℤ f)
-low_iff y w f z h k = (λ l. ≤ℤ_trans (scale_≤ℤ_right (<ℤ_weaken h) l) k.low, λ l. let m : z <ℤ (f +ℤ pos 1) = cancel_<ℤ_right w z (f +ℤ pos 1) h (≤ℤ-<ℤ_trans l k.high) in omega (arith, linear, m))
+low_iff y w f z h k = (
+  λ l. ≤ℤ_trans (scale_≤ℤ_right (<ℤ_weaken h) l) k.low,
+  λ l. let m : z <ℤ (f +ℤ pos 1) = cancel_<ℤ_right w z (f +ℤ pos 1) h (≤ℤ-<ℤ_trans l k.high) in omega (arith, linear, m),
+)
 
 -- where y/w is whole, it is its own ceiling
 pub IsLevel-whole : (p : Point) (f : ℤ) → f *ℤ p.w ≡ p.y → IsLevel p f f
-IsLevel-whole p f e = record { low = λ z. low_iff p.y p.w f z p.heavy k; high = λ z. (λ l. let m : (f *ℤ p.w) ≤ℤ (z *ℤ p.w) = scale_≤ℤ_right (<ℤ_weaken p.heavy) l in omega (arith, linear, m, e), λ l. cancel_≤ℤ_right p.w f z p.heavy (omega (arith, linear, l, e))) }
+IsLevel-whole p f e =
+    record {
+      low = λ z. low_iff p.y p.w f z p.heavy k;
+      high = λ z. (
+        λ l.
+            let m : (f *ℤ p.w) ≤ℤ (z *ℤ p.w) = scale_≤ℤ_right (<ℤ_weaken p.heavy) l in omega (arith, linear, m, e),
+        λ l. cancel_≤ℤ_right p.w f z p.heavy (omega (arith, linear, l, e)),
+      );
+    }
   where
     k : IsFloor p.y p.w f
     k = record { low = omega (arith, linear, e); high = omega (arith, linear, e, p.heavy, +ℤ-*ℤ f (pos 1) p.w, one-*ℤ p.w) }
 
 -- else the ceiling is one more than the floor
 pub IsLevel-between : (p : Point) (f : ℤ) → IsFloor p.y p.w f → ¬ (f *ℤ p.w ≡ p.y) → IsLevel p f (f +ℤ pos 1)
-IsLevel-between p f k n = record { low = λ z. low_iff p.y p.w f z p.heavy k; high = λ z. (λ l. let m : ((f +ℤ pos 1) *ℤ p.w) ≤ℤ (z *ℤ p.w) = scale_≤ℤ_right (<ℤ_weaken p.heavy) l in let h = k.high in omega (arith, linear, m, h), λ l. let m : f <ℤ z = cancel_<ℤ_right p.w f z p.heavy (strict (≤ℤ_trans k.low l) (λ e. n (at_end z l e))) in omega (arith, linear, m)) }
+IsLevel-between p f k n =
+    record {
+      low = λ z. low_iff p.y p.w f z p.heavy k;
+      high = λ z. (
+        λ l.
+            let m : ((f +ℤ pos 1) *ℤ p.w) ≤ℤ (z *ℤ p.w) = scale_≤ℤ_right (<ℤ_weaken p.heavy) l in
+            let h = k.high in
+            omega (arith, linear, m, h),
+        λ l.
+            let m : f <ℤ z = cancel_<ℤ_right p.w f z p.heavy (strict (≤ℤ_trans k.low l) (λ e. n (at_end z l e))) in
+            omega (arith, linear, m),
+      );
+    }
   where
     strict : {a b : ℤ} → a ≤ℤ b → ¬ (a ≡ b) → a <ℤ b
     strict {a} {b} h m = grind (arith, linear)
@@ -43,14 +66,17 @@ past y w f h = omega (arith, linear, h, +ℤ-*ℤ f (pos 1) w, one-*ℤ w)
 
 -- the quotient that the code works out
 pub IsFloor-quotient : (y w : ℤ) → pos 0 <ℤ w → IsFloor y w (int_div_euclid y w)
-IsFloor-quotient (pos a) (pos b) h = record { low = omega (arith, ints, h); high = past (pos a) (pos b) (pos (a / b)) (omega (arith, ints, h)) }
-IsFloor-quotient (negsuc a) (pos b) h = record { low = omega (arith, ints, h); high = past (negsuc a) (pos b) (negsuc (a / b)) (omega (arith, ints, h)) }
+IsFloor-quotient (pos a) (pos b) h =
+    record { low = omega (arith, ints, h); high = past (pos a) (pos b) (pos (a / b)) (omega (arith, ints, h)) }
+IsFloor-quotient (negsuc a) (pos b) h =
+    record { low = omega (arith, ints, h); high = past (negsuc a) (pos b) (negsuc (a / b)) (omega (arith, ints, h)) }
 IsFloor-quotient y (negsuc b) h = absurd h.lt
 
 -- the floor of a fraction within the limit is within the limit
 pub IsFloor-size : (y w f : ℤ) → IsFraction y w → IsFloor y w f → nat_abs f ≤ limit
 IsFloor-size y w f h k =
-    let low : neg_ℤ (pos limit) <ℤ (f +ℤ pos 1) = cancel_<ℤ_right w (neg_ℤ (pos limit)) (f +ℤ pos 1) h.heavy (let a = h.low in let b = k.high in omega (arith, linear, a, b, neg-*ℤ (pos limit) w)) in
+    let low : neg_ℤ (pos limit) <ℤ (f +ℤ pos 1) = cancel_<ℤ_right w (neg_ℤ (pos limit))
+    (f +ℤ pos 1) h.heavy (let a = h.low in let b = k.high in omega (arith, linear, a, b, neg-*ℤ (pos limit) w)) in
     let high : f ≤ℤ pos limit = cancel_≤ℤ_right w f (pos limit) h.heavy (let a = h.high in let b = k.low in omega (arith, linear, a, b)) in
     omega (arith, ints, low, high)
 
@@ -61,9 +87,12 @@ height y w y' h e = let r = read w128 y (numerator_size y w h) refl in record { 
 pub weight : (y w w' : ℤ) → IsFraction y w → w' ≡ w → Computes (wide w') w heaviest
 weight y w w' h e = let r = read w128 w (weight_size y w h) refl in record { is = ap wide e ∙ r.is; small = r.small }
 
-pub quotient : (y w y' w' q : ℤ) → IsFraction y w → y' ≡ y → w' ≡ w → q ≡ int_div_euclid (wide y') (wide w') → Computes (wide q) (int_div_euclid y w) limit
+pub quotient : (y w y' w' q : ℤ) → IsFraction y w → y' ≡ y → w' ≡ w → q ≡ int_div_euclid (wide y') (wide w') →
+    Computes (wide q) (int_div_euclid y w) limit
 quotient y w y' w' q h ey ew eq =
-    stored w128 (known (eq ∙ (λ i. int_div_euclid ((height y w y' h ey).is i) ((weight y w w' h ew).is i))) (IsFloor-size y w (int_div_euclid y w) h (IsFloor-quotient y w h.heavy))) refl
+    stored w128
+    (known (eq ∙ (λ i. int_div_euclid ((height y w y' h ey).is i) ((weight y w w' h ew).is i)))
+    (IsFloor-size y w (int_div_euclid y w) h (IsFloor-quotient y w h.heavy))) refl
 
 pub next : (q : ℤ) {f : ℤ} → Computes (wide q) f limit → Computes (wide (wide q +ℤ pos 1)) (f +ℤ pos 1) 1048576
 next q e = stored w128 (sum e (literal (pos 1))) refl

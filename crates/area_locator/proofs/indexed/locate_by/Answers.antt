@@ -23,8 +23,8 @@ by_all_edges : (g : _) (c : goal.After-stab g) →
 by_all_edges g c =
     located c.level_of-level.ensures.level c.args.segs.now (g.T.Spans.rows c.args.rows.now) c.requires.rows _
     (λ l i t step e is.
-        let here = ap (λ list. slice_get list i) c.as_slice-edges.ensures.items ∙ is in
-        search rules)
+    let here = ap (λ list. slice_get list i) c.as_slice-edges.ensures.items ∙ is in
+    search rules)
     c.stab.result c.stab.ensures.fold
 
 pub returns-clause-parity : goal.returns-clause-parity

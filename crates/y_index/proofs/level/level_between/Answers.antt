@@ -13,15 +13,20 @@ weight_of : (c : goal.After-div_euclid-floor) → Computes (wide c.parts-y.resul
 weight_of c = weight c.args.n.now.y c.args.n.now.w c.parts-y.result.2 c.args.n.now.above c.parts-y.ensures.w
 
 pub overflow_mul-floor : goal.overflow_mul-floor
-overflow_mul-floor c = fits w128 (product (quotient c.args.n.now.y c.args.n.now.w c.parts-y.result.1 c.parts-y.result.2 c.div_euclid-floor.result c.args.n.now.above c.parts-y.ensures.y c.parts-y.ensures.w c.div_euclid-floor.ensures) (weight_of c)) refl
+overflow_mul-floor c =
+    fits w128
+    (product (quotient c.args.n.now.y c.args.n.now.w c.parts-y.result.1 c.parts-y.result.2 c.div_euclid-floor.result c.args.n.now.above
+    c.parts-y.ensures.y c.parts-y.ensures.w c.div_euclid-floor.ensures) (weight_of c)) refl
 
 floor_of : (c : goal.Joined-floor-w) → Computes (wide c.div_euclid-floor.result) (int_div_euclid c.args.n.now.y c.args.n.now.w) limit
-floor_of c = quotient c.args.n.now.y c.args.n.now.w c.parts-y.result.1 c.parts-y.result.2 c.div_euclid-floor.result c.args.n.now.above c.parts-y.ensures.y c.parts-y.ensures.w c.div_euclid-floor.ensures
+floor_of c = quotient c.args.n.now.y c.args.n.now.w c.parts-y.result.1 c.parts-y.result.2 c.div_euclid-floor.result c.args.n.now.above
+    c.parts-y.ensures.y c.parts-y.ensures.w c.div_euclid-floor.ensures
 
 height_of : (c : goal.Joined-floor-w) → Computes (wide c.parts-y.result.1) c.args.n.now.y largest
 height_of c = height c.args.n.now.y c.args.n.now.w c.parts-y.result.1 c.args.n.now.above c.parts-y.ensures.y
 
-times : (c : goal.Joined-floor-w) → Computes (wide c.div_euclid-floor.result *ℤ wide c.parts-y.result.2) (int_div_euclid c.args.n.now.y c.args.n.now.w *ℤ c.args.n.now.w) 18446726481523507200
+times : (c : goal.Joined-floor-w) → Computes (wide c.div_euclid-floor.result *ℤ wide c.parts-y.result.2)
+    (int_div_euclid c.args.n.now.y c.args.n.now.w *ℤ c.args.n.now.w) 18446726481523507200
 times c = product (floor_of c) (weight c.args.n.now.y c.args.n.now.w c.parts-y.result.2 c.args.n.now.above c.parts-y.ensures.w)
 
 pub overflow_cast-result : goal.overflow_cast-result
@@ -30,7 +35,8 @@ overflow_cast-result c = fits w64 (floor_of c) refl
 pub overflow_cast-result-2 : goal.overflow_cast-result-2
 overflow_cast-result-2 c = elim c.if-floor-w.branch [
   | then-floor-w w ↦ (let e = floor_of c in fits w64 (record { is = w.ceiling-is ∙ e.is; small = e.small }) refl)
-  | else-floor-w w ↦ (let e = next c.div_euclid-floor.result (floor_of c) in fits w64 (record { is = w.ceiling-is ∙ e.is; small = e.small }) refl)
+  | else-floor-w w ↦ (let e = next c.div_euclid-floor.result (floor_of c) in
+      fits w64 (record { is = w.ceiling-is ∙ e.is; small = e.small }) refl)
 ]
 
 pub returns : goal.returns
@@ -41,9 +47,15 @@ returns c =
     let low : narrow (wide c.div_euclid-floor.result) ≡ f = (stored w64 e refl).is in
     elim c.if-floor-w.branch [
       | then-floor-w w ↦
-          (let whole : f *ℤ c.args.n.now.w ≡ c.args.n.now.y = sym (stored w128 (times c) refl).is ∙ ap (to_z w128) w.if-floor-w.true ∙ (height_of c).is in
+          (let whole : f *ℤ c.args.n.now.w ≡ c.args.n.now.y = sym (stored w128 (times c) refl).is ∙ ap (to_z w128) w.if-floor-w.true
+          ∙ (height_of c).is in
           record { level = subst₂ (IsLevel p) (sym low) (sym (ap narrow w.ceiling-is ∙ low)) (IsLevel-whole p f whole) })
       | else-floor-w w ↦
-          (let high : narrow (wide (wide c.div_euclid-floor.result +ℤ pos 1)) ≡ f +ℤ pos 1 = (stored w64 (next c.div_euclid-floor.result e) refl).is in
-          record { level = subst₂ (IsLevel p) (sym low) (sym (ap narrow w.ceiling-is ∙ high)) (IsLevel-between p f (IsFloor-quotient c.args.n.now.y c.args.n.now.w c.args.n.now.above.heavy) (λ k. w.if-floor-w.false (ap (of_z w128) ((times c).is ∙ k ∙ sym c.parts-y.ensures.y)))) })
+          (let high : narrow (wide (wide c.div_euclid-floor.result +ℤ pos 1)) ≡ f +ℤ pos 1 =
+          (stored w64 (next c.div_euclid-floor.result e) refl).is in
+          record {
+            level = subst₂ (IsLevel p) (sym low) (sym (ap narrow w.ceiling-is ∙ high))
+                (IsLevel-between p f (IsFloor-quotient c.args.n.now.y c.args.n.now.w c.args.n.now.above.heavy)
+                (λ k. w.if-floor-w.false (ap (of_z w128) ((times c).is ∙ k ∙ sym c.parts-y.ensures.y))));
+          })
     ]

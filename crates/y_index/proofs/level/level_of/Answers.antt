@@ -12,4 +12,8 @@ pub returns-in-Some : goal.returns-in-Some
 returns-in-Some c =
     let limit = c.in-Some.ensures.limit in
     let P : Point → Type 0 = λ q. IsLevel q (narrow c.in-Some.p.y) (narrow c.in-Some.p.y) in
-    record { level = subst P (sym c.in-Some.ensures.point) (IsLevel-whole (point_of c.in-Some.p) (narrow c.in-Some.p.y) (*ℤ_one (narrow c.in-Some.p.y) ∙ omega (arith, ints, limit))) }
+    record {
+      level =
+          subst P (sym c.in-Some.ensures.point)
+          (IsLevel-whole (point_of c.in-Some.p) (narrow c.in-Some.p.y) (*ℤ_one (narrow c.in-Some.p.y) ∙ omega (arith, ints, limit)));
+    }
