@@ -16,7 +16,8 @@ use Rattle.clap.specs.declared.parser.matches.ArgMatches.{ArgMatches}
 use Rattle.clap.proofs.OnLiterals.{clap_on_literals}
 use Rattle.clap.proofs.SimpleLemmas.{is_false}
 use Rattle.clap.proofs.WalkLemmas.{both}
-use Rattle.geosop_line.specs.Arguments.{command, matches, refusals, IsToldOf, told_as}
+use Rattle.geosop_line.specs.Arguments.{command, matches, refusals}
+use Rattle.geosop_line.specs.Steps.{IsToldOf, told_as}
 
 -- a simple argument isn't global
 not_global : (x : Arg) → is_simple_arg x ≡ true → x.global ≡ false

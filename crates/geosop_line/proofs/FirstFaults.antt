@@ -11,10 +11,11 @@ use Rattle.topo_pred.specs.declared.Query.TheVariants as query
 use Rattle.im_matrix.specs.Patterns.{HasFaultAt, pattern_text}
 use Rattle.geosop_line.specs.Arguments.{Value, value_of}
 use Rattle.geosop_line.specs.CommandLine.{Fails, IsFirst, rank}
-use Rattle.geosop_line.specs.Figures.{AreBadSources, AreFigures, AreFiguresOf, AreMade, ComeFromSample, ComeFromSources, IsBadSample, IsFiguresFault}
+use Rattle.geosop_line.specs.Figures.{AreBadSources, AreFiguresOf, ComeFromSample, ComeFromSources, IsBadSample}
 use Rattle.geosop_line.specs.Numbers.{IsNumber}
-use Rattle.geosop_line.specs.Operations.{Asks, IsBadArgument, IsBadOperation, IsBadPattern, IsQueryFault, operation_word}
-use Rattle.geosop_line.specs.Settings.{IsRule, IsThreads, IsRuleFault, IsScaleFault, IsThreadsFault}
+use Rattle.geosop_line.specs.Operations.{Asks, IsBadArgument, IsBadOperation, IsBadPattern, operation_word}
+use Rattle.geosop_line.specs.Settings.{IsRule, IsThreads}
+use Rattle.geosop_line.specs.Steps.{AreFigures, AreMade, IsFiguresFault, IsQueryFault, IsRuleFault, IsScaleFault, IsThreadsFault}
 use Rattle.geosop_line.specs.declared.config.Source.{Source}
 use Rattle.geosop_line.specs.declared.config.UsageFault.{UsageFault}
 use Rattle.geosop_line.specs.declared.config.UsageFault.TheVariants.{Line, Sample, Sources, Operation, Argument, BadMatch, RuleName, Threads, Scale}

@@ -1,15 +1,10 @@
 -- The command as clap knows it, and what clap's stated functions give of the words.
-use Rattle.std.specs.Prelude.{◌≡◌, ◌≢◌, ⊤, ℕ, true, List, [], ◌∷◌, Option, Some, codes}
+use Rattle.std.specs.Prelude.{ℕ, true, List, [], ◌∷◌, Option, Some, codes}
 use Rattle.clap.specs.Walk.{Row, Rule, first_of}
 use Rattle.clap.specs.Simple.{App, matches_of, new_rule, new_shape}
 use Rattle.clap.specs.Kinds.{Kinds}
 use Rattle.clap.specs.Faults.{fault_of}
 use Rattle.clap.specs.declared.builder.action.ArgAction.TheVariants.{SetTrue}
-use Rattle.clap.specs.declared.error.kind.ErrorKind.{ErrorKind}
-use Rattle.clap.specs.declared.error.kind.ErrorKind.TheVariants.{OutOfMemory}
-use Rattle.geosop_line.specs.declared.config.LineFault.{LineFault}
-use Rattle.geosop_line.specs.declared.config.LineFault.TheVariants.{Usage, NoMemory}
-use Rattle.geosop_line.specs.declared.config.UsageFault.TheVariants.{Line}
 
 -- An option with one value, by its letter.
 abbrev pub letter_option : List ℕ → ℕ → Rule
@@ -19,12 +14,13 @@ letter_option id letter = record (new_rule id) { short = Some letter }
 abbrev pub named_option : List ℕ → Rule
 named_option id = record (new_rule id) { long = Some id }
 
--- A flag, by its name.
+-- A flag, by its name. Its value is `true` where it is there, and else `false`.
 abbrev pub flag : List ℕ → Rule
 flag id = record (new_rule id) { long = Some id; action = Some SetTrue }
 
 -- The arguments: `-a`, `-b`, `-q` or `--quiet`, `--rule`, `--prepared`, `--threads`, `--scale`, `--sample`, and two positionals.
--- Each takes one value, but for the flags `quiet` and `prepared`. For clap none is required, excludes another or has a default.
+-- Each takes one value, but for the flags. For clap none is required, excludes another or has a default of ours. 97, 98 and 113 are
+-- the letters a, b and q.
 abbrev pub arguments : List Rule
 arguments =
     letter_option (codes "a") 97
@@ -65,13 +61,3 @@ Value = Option (List ℕ)
 -- The value that the matches have by an id.
 unfoldable pub value_of : List ℕ → List Row → Value
 value_of id rows = first_of id rows
-
--- What an error of clap's is told as: want of memory as such, and any other as a fault of the line.
-abbrev pub told_as : ErrorKind → LineFault
-told_as OutOfMemory = NoMemory
-told_as kind = Usage Line
-
--- What may be told of words for which clap has these refusals: want of memory, and where there are any, a fault of the line.
-abbrev pub IsToldOf : Kinds → LineFault → Type 0
-IsToldOf kinds NoMemory = ⊤
-IsToldOf kinds (Usage fault) = (fault ≡ Line) × (kinds ≢ [])

@@ -69,3 +69,15 @@ IsFaultOf refused rows NoMemory = ⊤
 -- Why a command line gives no configuration.
 abbrev pub IsLineFault : List (List ℕ) → LineFault → Type 0
 IsLineFault words = IsFaultOf (refusals words) (matches words)
+
+-- A command line has one configuration at most.
+abbrev pub ConfigIsOne : Type 0
+ConfigIsOne = (words : List (List ℕ)) (config other : Config) → IsLine words config → IsLine words other → config ≡ other
+
+-- A command line has one first fault at most.
+abbrev pub FirstFaultIsOne : Type 0
+FirstFaultIsOne = (words : List (List ℕ)) (fault other : UsageFault) → IsFirstFault words fault → IsFirstFault words other → fault ≡ other
+
+-- A command line with a configuration has no first fault.
+abbrev pub AConfigIsNoFault : Type 0
+AConfigIsNoFault = (words : List (List ℕ)) (config : Config) (fault : UsageFault) → IsLine words config → ¬ IsFirstFault words fault

@@ -3,10 +3,6 @@ use Rattle.std.specs.Prelude.{◌≡◌, ◌⊎◌, ℕ, Bool, true, false, List
 use Rattle.wkt_text.specs.Words.{is_text}
 use Rattle.geosop_line.specs.declared.config.Source.{Source}
 use Rattle.geosop_line.specs.declared.config.Source.TheVariants.{Text, File, Stdin}
-use Rattle.geosop_line.specs.declared.config.UsageFault.{UsageFault}
-use Rattle.geosop_line.specs.declared.config.UsageFault.TheVariants.{Sample, Sources}
-use Rattle.geosop_line.specs.declared.figures.Figures.{Figures}
-use Rattle.geosop_line.specs.declared.figures.Figures.TheVariants.{OfSample, OfSources}
 use Rattle.geosop_line.specs.Arguments.{Value}
 use Rattle.geosop_line.specs.Numbers.{IsNumber}
 
@@ -60,20 +56,3 @@ pub record IsBadSample (sample a b : Value) : Type 0 where
 pub record AreBadSources (sample a b : Value) : Type 0 where
   pub no_sample : sample ≡ None
   pub bad : (IsNone a ⊎ IsNone b) ⊎ ((a ≡ Some (codes "stdin")) × (b ≡ Some (codes "stdin")))
-
--- The first fault of the values of `--sample`, `-a` and `-b`.
-abbrev pub IsFiguresFault : Value → Value → Value → UsageFault → Type 0
-IsFiguresFault sample a b Sample = IsBadSample sample a b
-IsFiguresFault sample a b Sources = AreBadSources sample a b
-IsFiguresFault sample a b fault = ⊥
-
--- What the values of `--sample`, `-a` and `-b` say of the figures, before their sources are made.
-abbrev pub AreFigures : Value → Value → Value → Figures → Type 0
-AreFigures sample a b (OfSample n) = ComeFromSample sample a b n (Text []) (Text [])
-AreFigures sample a b (OfSources value_a value_b) = ComeFromSources sample a b (source_of value_a.now) (source_of value_b.now)
-
--- The two sources and the sample's number, once they are made.
-abbrev pub AreMade : Figures → Source → Source → Option ℕ → Type 0
-AreMade (OfSample n) source_a source_b sample = (source_a ≡ Text []) × (source_b ≡ Text []) × (sample ≡ Some n)
-AreMade (OfSources value_a value_b) source_a source_b sample =
-    (source_a ≡ source_of value_a.now) × (source_b ≡ source_of value_b.now) × (sample ≡ None)

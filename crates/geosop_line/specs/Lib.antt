@@ -4,3 +4,4 @@ pub mod Figures
 pub mod Numbers
 pub mod Operations
 pub mod Settings
+pub mod Steps

@@ -6,8 +6,6 @@ use Rattle.im_matrix.specs.Patterns.{HasFaultAt, pattern_text}
 use Rattle.topo_pred.specs.declared.Query.{Query}
 use Rattle.topo_pred.specs.declared.Query.TheVariants as query
 use Rattle.geosop_line.specs.Arguments.{Value}
-use Rattle.geosop_line.specs.declared.config.UsageFault.{UsageFault}
-use Rattle.geosop_line.specs.declared.config.UsageFault.TheVariants as fault
 use Rattle.geosop_line.specs.declared.operation.Operation.{Operation}
 use Rattle.geosop_line.specs.declared.operation.Operation.TheVariants.{Relate, RelatePattern, Named}
 
@@ -53,15 +51,3 @@ pub record IsBadPattern (operation argument : Value) (place : ℕ) : Type 0 wher
   pub asks : operation ≡ Some (operation_word RelatePattern)
   pub has_argument : argument ≡ Some text
   pub wrong : HasFaultAt text place
-
--- The operation is one of those above.
-pub record HasOperation (operation : Value) : Type 0 where
-  pub one : Operation
-  pub is : operation ≡ Some (operation_word one)
-
--- The first fault of the operation and the argument.
-abbrev pub IsQueryFault : Value → Value → UsageFault → Type 0
-IsQueryFault operation argument fault.Operation = IsBadOperation operation
-IsQueryFault operation argument fault.Argument = HasOperation operation × IsBadArgument operation argument
-IsQueryFault operation argument (fault.BadMatch place) = IsBadPattern operation argument place
-IsQueryFault operation argument other = ⊥

@@ -3,8 +3,6 @@ use Rattle.std.specs.Prelude.{◌≡◌, ℕ, List, Some, None, codes}
 use Rattle.point_set.specs.declared.rule.Rule.{Rule}
 use Rattle.point_set.specs.declared.rule.Rule.TheVariants.{Mod2, Endpoint, Multivalent, Monovalent}
 use Rattle.wkt_text.specs.declared.scale.Scale.{Scale as ScaleOfNumbers}
-use Rattle.geosop_line.specs.declared.config.UsageFault.{UsageFault}
-use Rattle.geosop_line.specs.declared.config.UsageFault.TheVariants.{RuleName, Threads, Scale}
 use Rattle.geosop_line.specs.Arguments.{Value}
 use Rattle.geosop_line.specs.Numbers.{IsNumber, IsDigit}
 
@@ -41,12 +39,3 @@ AreBadThreads value = (threads : ℕ) → ¬ IsThreads value threads
 -- The value of `--scale` isn't one digit for which there is a scale.
 abbrev pub IsBadScale : Value → Type 0
 IsBadScale value = (scale : ScaleOfNumbers) → ¬ IsScale value scale
-
-abbrev pub IsRuleFault : Value → UsageFault → Type 0
-IsRuleFault value fault = (fault ≡ RuleName) × IsBadRule value
-
-abbrev pub IsThreadsFault : Value → UsageFault → Type 0
-IsThreadsFault value fault = (fault ≡ Threads) × AreBadThreads value
-
-abbrev pub IsScaleFault : Value → UsageFault → Type 0
-IsScaleFault value fault = (fault ≡ Scale) × IsBadScale value

@@ -1,9 +1,10 @@
 //! The words as clap reads them.
-ghost use Rattle.std.specs.Prelude.{◌≡◌, ◌≢◌, [], IfOk, IfErr, map, string_bytes};
+ghost use Rattle.std.specs.Prelude.{◌≡◌, [], IfOk, IfErr, map, string_bytes};
 ghost use Rattle.clap.specs.Matches.{found_of};
 ghost use Rattle.clap.specs.Walk.{rows_of, rule_of};
 ghost use Rattle.clap.specs.Simple.{app_of};
-ghost use Rattle.geosop_line.specs.Arguments.{command as command_so, arguments as arguments_so, letter_option as letter_option_so, named_option as named_option_so, flag as flag_so, matches, refusals, value_of, IsToldOf};
+ghost use Rattle.geosop_line.specs.Arguments.{command as command_so, arguments as arguments_so, letter_option as letter_option_so, named_option as named_option_so, flag as flag_so, matches, refusals};
+ghost use Rattle.geosop_line.specs.Steps.{IsToldOf};
 
 use crate::config::{LineFault, UsageFault};
 use clap::error::ErrorKind;
@@ -63,7 +64,7 @@ fn command<'a>(alloc: Global) -> Result<Command<'a>, AllocError>
 impl From<clap::Error> for LineFault {
     ghost use Rattle.std.specs.Prelude.{◌≡◌};
     ghost use Rattle.clap.specs.Values.{kind_of};
-    ghost use Rattle.geosop_line.specs.Arguments.{told_as};
+    ghost use Rattle.geosop_line.specs.Steps.{told_as};
 
     ghost from_gives = { λ error e. e ≡ told_as (kind_of error) };
 

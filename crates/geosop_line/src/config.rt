@@ -1,3 +1,4 @@
+//! What a command line asks for, and why it may give nothing.
 use geosop_io::Word;
 use plane_exact::NoMemory;
 use point_set::Rule;

@@ -1,7 +1,8 @@
 //! Where the two figures come from.
 ghost use Rattle.std.specs.Prelude.{◌≡◌, [], MatchResult, IfOk};
 ghost use Rattle.std.specs.Option.{option_copied};
-ghost use Rattle.geosop_line.specs.Figures.{AreFigures, AreMade, IsFiguresFault, is_stdin as is_stdin_so, source_of as source_of_value};
+ghost use Rattle.geosop_line.specs.Figures.{is_stdin as is_stdin_so, source_of as source_of_value};
+ghost use Rattle.geosop_line.specs.Steps.{AreFigures, AreMade, IsFiguresFault};
 
 use crate::config::{Source, UsageFault};
 use crate::number::number_to;

@@ -4,6 +4,7 @@
 mod arguments;
 mod config;
 mod figures;
+mod laws;
 mod line;
 mod number;
 mod operation;
@@ -12,4 +13,5 @@ mod settings;
 mod tests;
 
 pub use config::{Config, LineFault, Source, UsageFault};
+pub use laws::law_a_line_has_one_answer;
 pub use line::read_line;

@@ -1,3 +1,4 @@
+//! The reading of a command line.
 ghost use Rattle.std.specs.Prelude.{◌≡◌, ◌⊎◌, ◌↔◌, List, ℕ, [], Some, Ok, Err, IsTrue, IfOk, IfErr, map, codes, string_bytes};
 ghost use Rattle.clap.specs.Matches.{found_of};
 ghost use Rattle.clap.specs.Walk.{rows_of};

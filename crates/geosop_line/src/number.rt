@@ -1,4 +1,5 @@
-ghost use Rattle.std.specs.Prelude.{◌≡◌, ◌<◌, ◌+◌, ℕ, [], ◌∷◌, MatchOption};
+//! Numbers in the words.
+ghost use Rattle.std.specs.Prelude.{ℕ, MatchOption};
 ghost use Rattle.geosop_line.specs.Numbers.{IsNumber, IsDigit};
 
 /// The number of a text of 1 to 4 digits, where it is from 1 to a limit.

@@ -1,7 +1,8 @@
 //! What is asked of each pair.
 ghost use Rattle.std.specs.Prelude.{◌≡◌, Some, MatchOption, MatchResult};
 ghost use Rattle.std.specs.Option.{option_copied};
-ghost use Rattle.geosop_line.specs.Operations.{operation_word, Asks, IsQueryFault};
+ghost use Rattle.geosop_line.specs.Operations.{operation_word, Asks};
+ghost use Rattle.geosop_line.specs.Steps.{IsQueryFault};
 ghost use Rattle.geosop_line.specs.declared.operation.Operation.{Operation};
 
 use crate::config::UsageFault;

@@ -1,6 +1,8 @@
-ghost use Rattle.std.specs.Prelude.{◌≡◌, MatchResult};
+//! The boundary node rule, the threads and the scale.
+ghost use Rattle.std.specs.Prelude.{MatchResult};
 ghost use Rattle.std.specs.Option.{option_copied};
-ghost use Rattle.geosop_line.specs.Settings.{IsRule, IsThreads, IsScale, IsRuleFault, IsThreadsFault, IsScaleFault};
+ghost use Rattle.geosop_line.specs.Settings.{IsRule, IsThreads, IsScale};
+ghost use Rattle.geosop_line.specs.Steps.{IsRuleFault, IsThreadsFault, IsScaleFault};
 
 use crate::config::UsageFault;
 use crate::number::{digit_of, number_to};

@@ -1,4 +1,4 @@
-use crate::{Config, LineFault, Source, UsageFault, read_line};
+use crate::{Config, LineFault, Source, UsageFault, law_a_line_has_one_answer, read_line};
 use im_matrix::{Name, Pattern};
 use point_set::Rule;
 use std::alloc::{AllocError, Global};
@@ -160,6 +160,7 @@ fn each_fault_is_the_first(rt: HostRuntime) {
     assert!(rt; have_fault(alloc, &RULE_NAME, UsageFault::RuleName));
     assert!(rt; have_fault(alloc, &THREADS, UsageFault::Threads));
     assert!(rt; have_fault(alloc, &SCALE, UsageFault::Scale));
+    law_a_line_has_one_answer();
     let no_words = read_line(alloc, &[]).err();
     assert_eq!(rt; no_words, Some(LineFault::Usage(UsageFault::Sources)));
 }
