@@ -11,8 +11,8 @@ use Rattle.std.proofs.lemmas.Simd.{map-map}
 use Rattle.whole_algebra.proofs.Signs.{not_≤ℤ}
 use Rattle.im_matrix.specs.declared.Loc.{Loc}
 use Rattle.im_matrix.specs.declared.Loc.TheVariants.{Exterior}
-use Rattle.plane_exact.proofs.PlaneOn.{Decides-int_le}
-use Rattle.plane_exact.specs.Plane.{Point}
+use Rattle.plane_laws.proofs.Segments.On.{Decides-int_le}
+use Rattle.plane_laws.specs.Plane.{Point}
 use Rattle.plane_exact.specs.declared.point.Seg.{Seg}
 use Rattle.point_set.specs.Location.{location_by}
 use Rattle.point_set.specs.Rings.{is_on_edge, is_on_edges, crosses, is_odd}

@@ -11,7 +11,7 @@ use Rattle.std.proofs.lemmas.Option.{slice_get_within, get_or_from_slice_get}
 use Rattle.plane_exact.specs.Places.{IsInLimit}
 use Rattle.plane_exact.specs.declared.point.Pt.{Pt}
 use Rattle.plane_exact.specs.declared.point.Seg.{Seg}
-use Rattle.point_set.proofs.ParityRing.{same_position}
+use Rattle.figure_laws.proofs.Lists.Places.{same_position}
 use Rattle.point_set.specs.Location.{edges_of_rings, rings_of}
 use Rattle.point_set.specs.Rings.{is_same_position, edge_before, edges_after, edges_of}
 use Rattle.point_set.specs.Shape.{IsWayInLimit, IsRingShaped, IsAreaShaped, IsWellShaped, positions_of_area}

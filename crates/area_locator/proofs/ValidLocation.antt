@@ -5,10 +5,10 @@ use Rattle.std.specs.List.{list_any}
 use Rattle.std.proofs.lemmas.Bool.{true≢false, false_from_ne_true, true_from_ne_false, or_parts}
 use Rattle.std.proofs.lemmas.List.Folds.{list_any-append, Any-from_list_any}
 use Rattle.std.proofs.lemmas.Option.{slice_get-get_or}
-use Rattle.plane_exact.specs.Plane.{Point}
+use Rattle.plane_laws.specs.Plane.{Point}
 use Rattle.plane_exact.specs.declared.point.Pt.{Pt}
 use Rattle.plane_exact.specs.declared.point.Seg.{Seg}
-use Rattle.point_set.proofs.ParityTests.{differ_assoc}
+use Rattle.ring_laws.proofs.Parity.Tests.{differ_assoc}
 use Rattle.point_set.specs.Location.{location, location_by, edges_of_rings}
 use Rattle.point_set.specs.Rings.{edges_of, is_on_edge, is_on_edges, crosses, differ, is_odd, is_inside}
 use Rattle.point_set.specs.Validity.{IsAtPlace, hole_outside, holes_overlap}

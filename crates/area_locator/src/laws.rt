@@ -3,7 +3,7 @@
 ghost use Rattle.std.specs.Prelude.{◌≡◌, ℕ, List, false};
 ghost use Rattle.area_locator.specs.Indexed.{edges_of_area};
 ghost use Rattle.area_locator.specs.Validity.{IsValidArea};
-ghost use Rattle.plane_exact.specs.Plane.{Point};
+ghost use Rattle.plane_laws.specs.Plane.{Point};
 ghost use Rattle.point_set.specs.Location.{location, location_by};
 ghost use Rattle.point_set.specs.Rings.{is_on_edges, is_odd};
 ghost use Rattle.point_set.specs.Validity.{IsAtPlace, IsValid};

@@ -1,3 +1,4 @@
--- The lemmas on dimensions and matrices that other crates may cite.
-pub use Rattle.im_matrix.proofs.Dimensions.{greater-least, rank-most, is_present-later}
-pub use Rattle.im_matrix.proofs.Matrices.{same_cell?, same_cells}
+-- The lemmas that proofs of other crates may cite.
+pub use Rattle.im_matrix.proofs.Dimensions.{rank-most, rank-greater, greater-least, is_present-later}
+pub use Rattle.im_matrix.proofs.Matrices.{matrix_by, dimension_at-matrix_by, same_cells, same_cell?}
+pub use Rattle.im_matrix.proofs.Ranges.{accepts-range}

@@ -1,6 +1,7 @@
+pub mod Dimensions
 pub mod Laws
-mod CellTests
-mod Dimensions
-mod Matrices
-mod PatternFaults
-mod PatternTexts
+pub mod Mapped
+pub mod Matrices
+pub mod PatternTexts
+pub mod PatternFaults
+pub mod Ranges

@@ -5,17 +5,13 @@ use Rattle.im_matrix.specs.declared.patterns.Mark.{Mark}
 use Rattle.im_matrix.specs.declared.patterns.Mark.TheVariants.{Present, Absent, Any, Points, Lines, Areas}
 use Rattle.im_matrix.specs.declared.patterns.Pattern.{Pattern}
 use Rattle.im_matrix.specs.declared.patterns.BadPattern.{BadPattern}
-use Rattle.im_matrix.specs.Patterns.{mark_character, pattern_text, is_right, HasFaultAt}
+use Rattle.im_matrix.specs.Cells.{all_cells}
+use Rattle.im_matrix.specs.Patterns.{mark_at, mark_character, pattern_text, is_right, HasFaultAt}
 use Rattle.std.specs.Prelude.{Some}
 
 -- the character of a mark is one of the six
 is_right-mark_character : (k : Mark) → is_right (Some (mark_character k)) ≡ true
-is_right-mark_character Present = refl
-is_right-mark_character Absent = refl
-is_right-mark_character Any = refl
-is_right-mark_character Points = refl
-is_right-mark_character Lines = refl
-is_right-mark_character Areas = refl
+is_right-mark_character k = grind arith
 
 -- so each character of a list of marks is right
 is_right-marks :
@@ -26,10 +22,7 @@ is_right-marks (k ∷ ks) (suc i) h = is_right-marks ks i (omega arith)
 
 -- the nine marks of a pattern in order
 abbrev marks_of : Pattern → List Mark
-marks_of p =
-    p.interior.interior ∷ p.interior.boundary ∷ p.interior.exterior ∷
-    p.boundary.interior ∷ p.boundary.boundary ∷ p.boundary.exterior ∷
-    p.exterior.interior ∷ p.exterior.boundary ∷ p.exterior.exterior ∷ []
+marks_of p = map (mark_at p) all_cells
 
 -- the text of a pattern has no fault
 no_fault : (p : Pattern) (place : ℕ) → HasFaultAt (pattern_text p) place → ⊥

@@ -1,43 +1,21 @@
--- Texts of patterns, character by character.
-use Rattle.std.proofs.Common.{◌≡◌, ℕ, ◌≤◌, Some, List, [], ◌∷◌, length, arith}
-use Rattle.std.specs.Prelude.{slice_get, ◌&&◌}
-use Rattle.im_matrix.specs.declared.Loc.TheVariants.{Interior, Boundary, Exterior}
-use Rattle.im_matrix.specs.declared.Matrix.{Matrix}
-use Rattle.im_matrix.specs.declared.patterns.Pattern.{Pattern}
-use Rattle.im_matrix.specs.Patterns.{mark_character, accepts, row_accepts, pattern_text, text_matches}
-use Rattle.im_matrix.proofs.CellTests.{nine_tests}
+-- Texts, character by character.
+use Prim.Native.Nat.{zero}
+use Rattle.std.proofs.Common.{◌≡◌, ℕ, suc, ◌≤◌, ◌∙◌, Some, List, [], ◌∷◌, length, drop, sym, ap}
+use Rattle.std.specs.Prelude.{slice_get}
+use Rattle.std.proofs.lemmas.List.{drop_all}
 
--- a text with these nine characters and no more
-pub nine_characters :
-    (text : List ℕ) (a b c d e f g h i : ℕ) → slice_get text 0 ≡ Some a → slice_get text 1 ≡ Some b
-    → slice_get text 2 ≡ Some c → slice_get text 3 ≡ Some d → slice_get text 4 ≡ Some e → slice_get text 5 ≡ Some f
-    → slice_get text 6 ≡ Some g → slice_get text 7 ≡ Some h → slice_get text 8 ≡ Some i → length text ≤ 9
-    → a ∷ b ∷ c ∷ d ∷ e ∷ f ∷ g ∷ h ∷ i ∷ [] ≡ text
-nine_characters [] a b c d e f g h i ea eb ec ed ee ef eg eh ei short = cc
-nine_characters (x₀ ∷ []) a b c d e f g h i ea eb ec ed ee ef eg eh ei short = cc
-nine_characters (x₀ ∷ x₁ ∷ []) a b c d e f g h i ea eb ec ed ee ef eg eh ei short = cc
-nine_characters (x₀ ∷ x₁ ∷ x₂ ∷ []) a b c d e f g h i ea eb ec ed ee ef eg eh ei short = cc
-nine_characters (x₀ ∷ x₁ ∷ x₂ ∷ x₃ ∷ []) a b c d e f g h i ea eb ec ed ee ef eg eh ei short = cc
-nine_characters (x₀ ∷ x₁ ∷ x₂ ∷ x₃ ∷ x₄ ∷ []) a b c d e f g h i ea eb ec ed ee ef eg eh ei short = cc
-nine_characters (x₀ ∷ x₁ ∷ x₂ ∷ x₃ ∷ x₄ ∷ x₅ ∷ []) a b c d e f g h i ea eb ec ed ee ef eg eh ei short = cc
-nine_characters (x₀ ∷ x₁ ∷ x₂ ∷ x₃ ∷ x₄ ∷ x₅ ∷ x₆ ∷ []) a b c d e f g h i ea eb ec ed ee ef eg eh ei short = cc
-nine_characters (x₀ ∷ x₁ ∷ x₂ ∷ x₃ ∷ x₄ ∷ x₅ ∷ x₆ ∷ x₇ ∷ []) a b c d e f g h i ea eb ec ed ee ef eg eh ei short = cc
-nine_characters (x₀ ∷ x₁ ∷ x₂ ∷ x₃ ∷ x₄ ∷ x₅ ∷ x₆ ∷ x₇ ∷ x₈ ∷ []) a b c d e f g h i ea eb ec ed ee ef eg eh ei short = cc
-nine_characters (x₀ ∷ x₁ ∷ x₂ ∷ x₃ ∷ x₄ ∷ x₅ ∷ x₆ ∷ x₇ ∷ x₈ ∷ x₉ ∷ xs) a b c d e f g h i ea eb ec ed ee ef eg eh ei short = absurd (omega arith)
+-- from a place on the text has these characters, and no more
+abbrev pub HasFrom : List ℕ → ℕ → List ℕ → Type 0
+HasFrom text place [] = length text ≤ place
+HasFrom text place (x ∷ xs) = (slice_get text place ≡ Some x) × HasFrom text (suc place) xs
 
--- a pattern's rows, one after the other, are its text
-pub rows_in_order :
-    (p : Pattern) (m : Matrix) →
-    (row_accepts p.interior m Interior && row_accepts p.boundary m Boundary) && row_accepts p.exterior m Exterior
-    ≡ text_matches (pattern_text p) m
-rows_in_order p m =
-    nine_tests
-    (accepts (mark_character p.interior.interior) m.interior.interior)
-    (accepts (mark_character p.interior.boundary) m.interior.boundary)
-    (accepts (mark_character p.interior.exterior) m.interior.exterior)
-    (accepts (mark_character p.boundary.interior) m.boundary.interior)
-    (accepts (mark_character p.boundary.boundary) m.boundary.boundary)
-    (accepts (mark_character p.boundary.exterior) m.boundary.exterior)
-    (accepts (mark_character p.exterior.interior) m.exterior.interior)
-    (accepts (mark_character p.exterior.boundary) m.exterior.boundary)
-    (accepts (mark_character p.exterior.exterior) m.exterior.exterior)
+-- one character of it
+drop-here : (text : List ℕ) (place x : ℕ) → slice_get text place ≡ Some x → drop place text ≡ x ∷ drop (suc place) text
+drop-here [] place x h = cc
+drop-here (t ∷ text) zero x h = let same : t ≡ x = cc in ap (λ (z : ℕ). z ∷ text) same
+drop-here (t ∷ text) (suc place) x h = drop-here text place x h
+
+-- so these characters are its rest
+pub rest_is : (text : List ℕ) (place : ℕ) (xs : List ℕ) → HasFrom text place xs → xs ≡ drop place text
+rest_is text place [] h = sym (drop_all place text h)
+rest_is text place (x ∷ xs) h = ap (λ (z : List ℕ). x ∷ z) (rest_is text (suc place) xs h.1) ∙ sym (drop-here text place x h.0)

@@ -5,8 +5,8 @@ use Rattle.im_matrix.specs.declared.Loc.TheVariants.{Interior, Boundary, Exterio
 use Rattle.im_matrix.specs.declared.Dim.{Dim}
 use Rattle.im_matrix.specs.declared.Dim.TheVariants.{Empty, Zero, One, Two}
 use Rattle.im_matrix.specs.declared.Cell.{Cell}
-use Rattle.im_matrix.specs.declared.Row.{Row}
 use Rattle.im_matrix.specs.declared.Matrix.{Matrix}
+use Rattle.im_matrix.specs.Parts.{at_part}
 
 -- the place of a dimension in their order
 abbrev pub rank : Dim → ℕ
@@ -28,21 +28,9 @@ greater Two e = Two
 abbrev pub cell : Loc → Loc → Cell
 cell a b = record { a = a; b = b }
 
--- the row of a part of A's plane
-abbrev pub row_at : Matrix → Loc → Row
-row_at m Interior = m.interior
-row_at m Boundary = m.boundary
-row_at m Exterior = m.exterior
-
--- the dimension in a row at a part of B's plane
-abbrev pub in_row : Row → Loc → Dim
-in_row r Interior = r.interior
-in_row r Boundary = r.boundary
-in_row r Exterior = r.exterior
-
 -- the dimension that the matrix has in a cell
 abbrev pub dimension_at : Matrix → Cell → Dim
-dimension_at m c = in_row (row_at m c.a) c.b
+dimension_at m c = at_part (at_part m.dims c.a) c.b
 
 -- before anything is known: Two where both parts are exterior, else Empty
 abbrev pub start_dimension : Cell → Dim

@@ -1,4 +1,5 @@
+pub mod Parts
 pub mod Cells
 pub mod Patterns
 pub mod Names
-pub mod Parts
+pub mod Common

@@ -3,15 +3,14 @@ use Rattle.std.specs.Prelude.{◌≡◌, ◌==◌, ◌<◌, ◌+◌, ℕ, Bool, 
 use Rattle.std.specs.List.{list_any}
 use Rattle.im_matrix.specs.declared.Dim.{Dim}
 use Rattle.im_matrix.specs.declared.Dim.TheVariants.{Empty, Zero, One, Two}
-use Rattle.im_matrix.specs.declared.Loc.{Loc}
-use Rattle.im_matrix.specs.declared.Loc.TheVariants.{Interior, Boundary, Exterior}
 use Rattle.im_matrix.specs.declared.Cell.{Cell}
 use Rattle.im_matrix.specs.declared.Matrix.{Matrix}
 use Rattle.im_matrix.specs.declared.patterns.Mark.{Mark}
 use Rattle.im_matrix.specs.declared.patterns.Mark.TheVariants.{Present, Absent, Any, Points, Lines, Areas}
-use Rattle.im_matrix.specs.declared.patterns.MarkRow.{MarkRow}
+use Rattle.im_matrix.specs.declared.parts.Parts.{Parts}
 use Rattle.im_matrix.specs.declared.patterns.Pattern.{Pattern}
-use Rattle.im_matrix.specs.Cells.{character_of, cell, dimension_at, all_cells}
+use Rattle.im_matrix.specs.Cells.{character_of, dimension_at, all_cells}
+use Rattle.im_matrix.specs.Parts.{at_part}
 
 -- the set has a point
 abbrev pub is_present : Dim → Bool
@@ -47,32 +46,22 @@ mark_character Points = 48
 mark_character Lines = 49
 mark_character Areas = 50
 
--- the row of marks of a part of A's plane
-abbrev pub mark_row_at : Pattern → Loc → MarkRow
-mark_row_at p Interior = p.interior
-mark_row_at p Boundary = p.boundary
-mark_row_at p Exterior = p.exterior
-
--- the mark in a row at a part of B's plane
-abbrev pub in_mark_row : MarkRow → Loc → Mark
-in_mark_row r Interior = r.interior
-in_mark_row r Boundary = r.boundary
-in_mark_row r Exterior = r.exterior
+-- the least and the greatest dimension that a mark accepts
+abbrev pub range_of : Mark → Dim × Dim
+range_of Present = (Zero, Two)
+range_of Absent = (Empty, Empty)
+range_of Any = (Empty, Two)
+range_of Points = (Zero, Zero)
+range_of Lines = (One, One)
+range_of Areas = (Two, Two)
 
 -- the mark that the pattern has for a cell
 abbrev pub mark_at : Pattern → Cell → Mark
-mark_at p c = in_mark_row (mark_row_at p c.a) c.b
+mark_at p c = at_part (at_part p.marks c.a) c.b
 
 -- the nine characters of a pattern, in the order of the cells
 abbrev pub pattern_text : Pattern → List ℕ
 pattern_text p = map (λ c. mark_character (mark_at p c)) all_cells
-
--- each mark of a row accepts the dimension in its cell
-abbrev pub row_accepts : MarkRow → Matrix → Loc → Bool
-row_accepts r m a =
-    accepts (mark_character r.interior) (dimension_at m (cell a Interior))
-    && accepts (mark_character r.boundary) (dimension_at m (cell a Boundary))
-    && accepts (mark_character r.exterior) (dimension_at m (cell a Exterior))
 
 -- there is a character, and it is one of the six
 abbrev pub is_right : Option ℕ → Bool
@@ -84,7 +73,7 @@ abbrev pub RightBelow : List ℕ → ℕ → Type 0
 RightBelow text place = (i : ℕ) → i < place → is_right (slice_get text i) ≡ true
 
 -- the text has the three marks of a row from this place on
-pub record HasRowAt (text : List ℕ) (first : ℕ) (row : MarkRow) : Type 0 where
+pub record HasRowAt (text : List ℕ) (first : ℕ) (row : Parts Mark) : Type 0 where
   pub interior : slice_get text first ≡ Some (mark_character row.interior)
   pub boundary : slice_get text (first + 1) ≡ Some (mark_character row.boundary)
   pub exterior : slice_get text (first + 2) ≡ Some (mark_character row.exterior)

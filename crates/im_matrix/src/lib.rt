@@ -3,15 +3,17 @@
 #![tactic(auto)]
 
 ghost use Rattle.std.specs.Prelude.{◌≡◌, ◌≢◌};
-ghost use Rattle.im_matrix.specs.Cells.{greater, in_row, dimension_at, start_dimension, character_of, matrix_text};
+ghost use Rattle.im_matrix.specs.Cells.{greater, dimension_at, start_dimension, character_of, matrix_text};
 ghost use Rattle.im_matrix.specs.Patterns.{is_present};
 ghost use Rattle.im_matrix.specs.declared.Loc.{Loc};
 ghost use Rattle.im_matrix.specs.declared.Cell.{Cell};
 
 mod names;
+mod parts;
 mod patterns;
 
 pub use names::{Name, named};
+use parts::Parts;
 pub use patterns::{BadPattern, Mark, Pattern};
 
 /// One of the two figures of a pair.
@@ -90,91 +92,69 @@ pub struct Cell {
 }
 
 impl Cell {
+    const II: Cell = Cell {
+        a: Loc::Interior,
+        b: Loc::Interior,
+    };
+
+    const IB: Cell = Cell {
+        a: Loc::Interior,
+        b: Loc::Boundary,
+    };
+
+    const IE: Cell = Cell {
+        a: Loc::Interior,
+        b: Loc::Exterior,
+    };
+
+    const BI: Cell = Cell {
+        a: Loc::Boundary,
+        b: Loc::Interior,
+    };
+
+    const BB: Cell = Cell {
+        a: Loc::Boundary,
+        b: Loc::Boundary,
+    };
+
+    const BE: Cell = Cell {
+        a: Loc::Boundary,
+        b: Loc::Exterior,
+    };
+
+    const EI: Cell = Cell {
+        a: Loc::Exterior,
+        b: Loc::Interior,
+    };
+
+    const EB: Cell = Cell {
+        a: Loc::Exterior,
+        b: Loc::Boundary,
+    };
+
+    const EE: Cell = Cell {
+        a: Loc::Exterior,
+        b: Loc::Exterior,
+    };
+
     /// The nine cells in the order II IB IE BI BB BE EI EB EE.
     pub const ALL: [Cell; 9] = [
-        Cell {
-            a: Loc::Interior,
-            b: Loc::Interior,
-        },
-        Cell {
-            a: Loc::Interior,
-            b: Loc::Boundary,
-        },
-        Cell {
-            a: Loc::Interior,
-            b: Loc::Exterior,
-        },
-        Cell {
-            a: Loc::Boundary,
-            b: Loc::Interior,
-        },
-        Cell {
-            a: Loc::Boundary,
-            b: Loc::Boundary,
-        },
-        Cell {
-            a: Loc::Boundary,
-            b: Loc::Exterior,
-        },
-        Cell {
-            a: Loc::Exterior,
-            b: Loc::Interior,
-        },
-        Cell {
-            a: Loc::Exterior,
-            b: Loc::Boundary,
-        },
-        Cell {
-            a: Loc::Exterior,
-            b: Loc::Exterior,
-        },
+        Self::II,
+        Self::IB,
+        Self::IE,
+        Self::BI,
+        Self::BB,
+        Self::BE,
+        Self::EI,
+        Self::EB,
+        Self::EE,
     ];
-}
-
-/// The three cells in which A's part is the same, by B's part.
-#[derive(Clone, Copy, Debug, PartialEq, Eq)]
-struct Row {
-    interior: Dim,
-    boundary: Dim,
-    exterior: Dim,
 }
 
 /// For each cell a dimension: that of the points that are in both parts.
 #[derive(Clone, Copy, Debug, PartialEq, Eq)]
 pub struct Matrix {
-    interior: Row,
-    boundary: Row,
-    exterior: Row,
-}
-
-impl Row {
-    /// No point in any of the three cells.
-    const EMPTY: Row = Row {
-        interior: Dim::Empty,
-        boundary: Dim::Empty,
-        exterior: Dim::Empty,
-    };
-
-    fn get(&self, b: Loc) -> Dim
-        ensures dimension { result ≡ in_row self.now b }
-    {
-        match b {
-            Loc::Interior => self.interior,
-            Loc::Boundary => self.boundary,
-            Loc::Exterior => self.exterior,
-        }
-    }
-
-    fn raise(&mut self, b: Loc, d: Dim)
-        ensures raised { in_row self.new b ≡ greater (in_row self.old b) d }
-        ensures others { (other : Loc) → other ≢ b → in_row self.new other ≡ in_row self.old other }
-    {
-        match b {
-            Loc::Interior => self.interior = self.interior.greater(d),
-            Loc::Boundary => self.boundary = self.boundary.greater(d),
-            Loc::Exterior => self.exterior = self.exterior.greater(d),
-        }
-    }
+    dims: Parts<Parts<Dim>>,
 }
 
 impl Matrix {
@@ -183,12 +163,14 @@ impl Matrix {
     pub fn start() -> Matrix
         ensures start { (c : Cell) → dimension_at result c ≡ start_dimension c }
     {
+        let nothing = Parts::all(Dim::Empty);
         Matrix {
-            interior: Row::EMPTY,
-            boundary: Row::EMPTY,
-            exterior: Row {
-                exterior: Dim::Two,
-                ..Row::EMPTY
+            dims: Parts {
+                exterior: Parts {
+                    exterior: Dim::Two,
+                    ..nothing
+                },
+                ..Parts::all(nothing)
             },
         }
     }
@@ -197,11 +179,7 @@ impl Matrix {
     pub fn get(&self, c: Cell) -> Dim
         ensures dimension { result ≡ dimension_at self.now c }
     {
-        match c.a {
-            Loc::Interior => self.interior.get(c.b),
-            Loc::Boundary => self.boundary.get(c.b),
-            Loc::Exterior => self.exterior.get(c.b),
-        }
+        self.dims.at(c.a).at(c.b)
     }
 
     /// Makes the cell's dimension the greater of its own and `d`. No other cell changes.
@@ -210,9 +188,9 @@ impl Matrix {
         ensures others { (other : Cell) → other ≢ c → dimension_at self.new other ≡ dimension_at self.old other }
     {
         match c.a {
-            Loc::Interior => self.interior.raise(c.b, d),
-            Loc::Boundary => self.boundary.raise(c.b, d),
-            Loc::Exterior => self.exterior.raise(c.b, d),
+            Loc::Interior => self.dims.interior.raise(c.b, d),
+            Loc::Boundary => self.dims.boundary.raise(c.b, d),
+            Loc::Exterior => self.dims.exterior.raise(c.b, d),
         }
     }
 
@@ -220,17 +198,7 @@ impl Matrix {
     pub fn text(&self) -> [u8; 9]
         ensures text { result ≡ matrix_text self.now }
     {
-        [
-            self.interior.interior.character(),
-            self.interior.boundary.character(),
-            self.interior.exterior.character(),
-            self.boundary.interior.character(),
-            self.boundary.boundary.character(),
-            self.boundary.exterior.character(),
-            self.exterior.interior.character(),
-            self.exterior.boundary.character(),
-            self.exterior.exterior.character(),
-        ]
+        Cell::ALL.map(|c| self.get(c).character())
     }
 }
 

@@ -1,7 +1,7 @@
 // The named predicates on a matrix.
 
 ghost use Rattle.std.specs.Prelude.{◌≡◌, ◌&&◌, ◌||◌, not};
-ghost use Rattle.im_matrix.specs.Parts.{has, figures_meet, a_leaves_b, b_leaves_a};
+ghost use Rattle.im_matrix.specs.Common.{has, figures_meet, a_leaves_b, b_leaves_a};
 ghost use Rattle.im_matrix.specs.Names.{name_value};
 ghost use Rattle.im_matrix.specs.declared.Loc.TheVariants.{Interior, Boundary, Exterior};
 
@@ -83,7 +83,7 @@ fn crosses(dim_a: Dim, dim_b: Dim, m: &Matrix) -> bool
     ensures value { result ≡ name_value Name.Crosses dim_a dim_b m.now }
 {
     match (dim_a, dim_b) {
-        (Dim::One, Dim::One) => matches!(m.interior.interior, Dim::Zero),
+        (Dim::One, Dim::One) => matches!(m.get(Cell::II), Dim::Zero),
         _ if dim_a < dim_b => {
             m.has(Loc::Interior, Loc::Interior) && m.has(Loc::Interior, Loc::Exterior)
         }
@@ -100,7 +100,7 @@ fn overlaps(dim_a: Dim, dim_b: Dim, m: &Matrix) -> bool
 {
     let interiors_meet = match (dim_a, dim_b) {
         (Dim::Zero, Dim::Zero) | (Dim::Two, Dim::Two) => m.has(Loc::Interior, Loc::Interior),
-        (Dim::One, Dim::One) => matches!(m.interior.interior, Dim::One),
+        (Dim::One, Dim::One) => matches!(m.get(Cell::II), Dim::One),
         _ => false,
     };
     interiors_meet && m.has(Loc::Interior, Loc::Exterior) && m.has(Loc::Exterior, Loc::Interior)

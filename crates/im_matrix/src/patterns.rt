@@ -1,10 +1,10 @@
 // Patterns of nine characters over the cells of a matrix.
 
 ghost use Rattle.std.specs.Prelude.{◌≡◌, ◌+◌, ◌<◌, ◌≤◌, ℕ, true, false, ◌↔◌, IfOk, IfErr, OnOk, MatchOption, slice_get};
-ghost use Rattle.im_matrix.specs.Cells.{dimension_at};
-ghost use Rattle.im_matrix.specs.Patterns.{accepts, text_matches, mark_character, in_mark_row, mark_at, pattern_text, is_right, row_accepts, HasRowAt, RightBelow, HasFaultAt};
+ghost use Rattle.im_matrix.specs.Patterns.{accepts, range_of, text_matches, mark_character, mark_at, pattern_text, is_right, HasRowAt, RightBelow, HasFaultAt};
 
-use crate::{Cell, Dim, Loc, Matrix};
+use crate::parts::Parts;
+use crate::{Cell, Dim, Matrix};
 
 /// What a pattern asks of the dimension in one cell.
 #[derive(Clone, Copy, Debug, PartialEq, Eq)]
@@ -53,35 +53,33 @@ impl Mark {
         }
     }
 
+    /// The least and the greatest dimension that the mark accepts.
+    pub fn range(self) -> (Dim, Dim)
+        ensures range { result ≡ range_of self }
+    {
+        match self {
+            Mark::Present => (Dim::Zero, Dim::Two),
+            Mark::Absent => (Dim::Empty, Dim::Empty),
+            Mark::Any => (Dim::Empty, Dim::Two),
+            Mark::Points => (Dim::Zero, Dim::Zero),
+            Mark::Lines => (Dim::One, Dim::One),
+            Mark::Areas => (Dim::Two, Dim::Two),
+        }
+    }
+
     /// Whether the dimension is one that the mark asks for.
     fn accepts(self, d: Dim) -> bool
         ensures accepts { result ≡ accepts (mark_character self) d }
     {
-        match self {
-            Mark::Present => d.is_present(),
-            Mark::Absent => !d.is_present(),
-            Mark::Any => true,
-            Mark::Points => matches!(d, Dim::Zero),
-            Mark::Lines => matches!(d, Dim::One),
-            Mark::Areas => matches!(d, Dim::Two),
-        }
+        let (least, greatest) = self.range();
+        least <= d && d <= greatest
     }
-}
-
-/// The marks of three cells in which A's part is the same, by B's part.
-#[derive(Clone, Copy, Debug, PartialEq, Eq)]
-struct MarkRow {
-    interior: Mark,
-    boundary: Mark,
-    exterior: Mark,
 }
 
 /// A pattern: for each cell of a matrix, what it asks of the dimension there.
 #[derive(Clone, Copy, Debug, PartialEq, Eq)]
 pub struct Pattern {
-    interior: MarkRow,
-    boundary: MarkRow,
-    exterior: MarkRow,
+    marks: Parts<Parts<Mark>>,
 }
 
 /// A text that is no pattern.
@@ -104,47 +102,19 @@ fn parse_mark(text: &[u8], place: u32) -> Result<Mark, BadPattern>
     character.and_then(Mark::of).ok_or(BadPattern { place })
 }
 
-impl MarkRow {
-    /// The marks at three places of the text. All before them are right.
-    fn parse(text: &[u8], first: u32) -> Result<MarkRow, BadPattern>
-        requires below_nine { first + 2 < 9 }
-        requires right { RightBelow text.now first }
-        ensures ok { IfOk result (HasRowAt text.now first) }
-        ensures right { OnOk result (RightBelow text.now (first + 3)) }
-        ensures err { IfErr result (λ e. HasFaultAt text.now e.place) }
-    {
-        Ok(MarkRow {
-            interior: parse_mark(text, first)?,
-            boundary: parse_mark(text, first + 1)?,
-            exterior: parse_mark(text, first + 2)?,
-        })
-    }
-
-    fn at(&self, b: Loc) -> Mark
-        ensures mark { result ≡ in_mark_row self.now b }
-    {
-        match b {
-            Loc::Interior => self.interior,
-            Loc::Boundary => self.boundary,
-            Loc::Exterior => self.exterior,
-        }
-    }
-
-    /// Whether each mark accepts the dimension in its cell.
-    fn matches(&self, m: &Matrix, a: Loc) -> bool
-        ensures matches { result ≡ row_accepts self.now m.now a }
-    {
-        self.interior.accepts(m.get(Cell {
-            a,
-            b: Loc::Interior,
-        })) && self.boundary.accepts(m.get(Cell {
-            a,
-            b: Loc::Boundary,
-        })) && self.exterior.accepts(m.get(Cell {
-            a,
-            b: Loc::Exterior,
-        }))
-    }
+/// The marks at three places of the text. All before them are right.
+fn parse_row(text: &[u8], first: u32) -> Result<Parts<Mark>, BadPattern>
+    requires below_nine { first + 2 < 9 }
+    requires right { RightBelow text.now first }
+    ensures ok { IfOk result (HasRowAt text.now first) }
+    ensures right { OnOk result (RightBelow text.now (first + 3)) }
+    ensures err { IfErr result (λ e. HasFaultAt text.now e.place) }
+{
+    Ok(Parts {
+        interior: parse_mark(text, first)?,
+        boundary: parse_mark(text, first + 1)?,
+        exterior: parse_mark(text, first + 2)?,
+    })
 }
 
 impl Pattern {
@@ -162,16 +132,18 @@ impl Pattern {
         ensures ok { IfOk result (λ p. pattern_text p ≡ text.now) }
         ensures err { IfErr result (λ e. HasFaultAt text.now e.place) }
     {
-        let interior = MarkRow::parse(text, 0)?;
-        let boundary = MarkRow::parse(text, 3)?;
-        let exterior = MarkRow::parse(text, 6)?;
+        let interior = parse_row(text, 0)?;
+        let boundary = parse_row(text, 3)?;
+        let exterior = parse_row(text, 6)?;
         if text.len() > 9 {
             return Err(BadPattern { place: 9 });
         }
         Ok(Pattern {
-            interior,
-            boundary,
-            exterior,
+            marks: Parts {
+                interior,
+                boundary,
+                exterior,
+            },
         })
     }
 
@@ -179,28 +151,14 @@ impl Pattern {
     pub fn at(&self, c: Cell) -> Mark
         ensures mark { result ≡ mark_at self.now c }
     {
-        match c.a {
-            Loc::Interior => self.interior.at(c.b),
-            Loc::Boundary => self.boundary.at(c.b),
-            Loc::Exterior => self.exterior.at(c.b),
-        }
+        self.marks.at(c.a).at(c.b)
     }
 
     /// The nine characters of the pattern.
     pub fn text(&self) -> [u8; 9]
         ensures text { result ≡ pattern_text self.now }
     {
-        [
-            self.interior.interior.character(),
-            self.interior.boundary.character(),
-            self.interior.exterior.character(),
-            self.boundary.interior.character(),
-            self.boundary.boundary.character(),
-            self.boundary.exterior.character(),
-            self.exterior.interior.character(),
-            self.exterior.boundary.character(),
-            self.exterior.exterior.character(),
-        ]
+        Cell::ALL.map(|c| self.at(c).character())
     }
 
     /// Whether the matrix matches: `T` asks for a cell that isn't Empty, `F` for an empty one, `*` for
@@ -208,8 +166,6 @@ impl Pattern {
     pub fn matches(&self, m: &Matrix) -> bool
         ensures matches { result ≡ text_matches (pattern_text self.now) m.now }
     {
-        self.interior.matches(m, Loc::Interior)
-            && self.boundary.matches(m, Loc::Boundary)
-            && self.exterior.matches(m, Loc::Exterior)
+        Cell::ALL.iter().all(|&c| self.at(c).accepts(m.get(c)))
     }
 }

@@ -25,6 +25,16 @@ const NAMES: [Name; 11] = [
     Name::ContainsProperly,
 ];
 
+fn can_be_shared<T: Send + Sync>() -> bool {
+    true
+}
+
+#[test]
+fn matrices_and_patterns_can_be_shared_by_threads(rt: HostRuntime) {
+    assert!(rt; can_be_shared::<Matrix>());
+    assert!(rt; can_be_shared::<Pattern>());
+}
+
 #[test]
 fn texts(rt: HostRuntime) -> Result<(), Fail> {
     let mut m = Matrix::start();

@@ -66,52 +66,28 @@ lt-later n x y h k = grind (arith, nat_tests)
 
 -- one of two tests, where each stays true
 pub or-later : (a b c d : Bool) → (a ≡ true → c ≡ true) → (b ≡ true → d ≡ true) → a || b ≡ true → c || d ≡ true
-or-later a b true d f g h = refl
-or-later a b false true f g h = refl
-or-later true b false false f g h = f refl
-or-later false true false false f g h = g refl
-or-later false false false false f g h = h
+or-later a b c d f g h = grind arith
 
 -- both of two tests, where each stays true
 pub and-later : (a b c d : Bool) → (a ≡ true → c ≡ true) → (b ≡ true → d ≡ true) → a && b ≡ true → c && d ≡ true
-and-later a b true true f g h = refl
-and-later true true true false f g h = g refl
-and-later true true false d f g h = f refl
-and-later true false c d f g h = cc
-and-later false b c d f g h = cc
+and-later a b c d f g h = grind arith
 
 -- one of two tests refutes one of two others
 pub or-refutes : (a b c d : Bool) → (a ≡ true → c ≡ false) → (b ≡ true → d ≡ false) → a || b ≡ true → c && d ≡ false
-or-refutes a b false d f g h = refl
-or-refutes a b true false f g h = refl
-or-refutes true b true true f g h = f refl
-or-refutes false true true true f g h = g refl
-or-refutes false false true true f g h = cc
+or-refutes a b c d f g h = grind arith
 
 -- two tests are false, and so two others are true
 pub or-false-passes : (a b c d : Bool) → (a ≡ false → c ≡ true) → (b ≡ false → d ≡ true) → a || b ≡ false → c && d ≡ true
-or-false-passes true b c d f g h = cc
-or-false-passes false true c d f g h = cc
-or-false-passes false false true true f g h = refl
-or-false-passes false false true false f g h = g refl
-or-false-passes false false false d f g h = f refl
+or-false-passes a b c d f g h = grind arith
 
 -- one of two tests is false, and so one of two others
 pub and-false-fails : (a b c d : Bool) → (a ≡ false → c ≡ false) → (b ≡ false → d ≡ false) → a && b ≡ false → c && d ≡ false
-and-false-fails a b false d f g h = refl
-and-false-fails a b true false f g h = refl
-and-false-fails false b true true f g h = f refl
-and-false-fails true false true true f g h = g refl
-and-false-fails true true true true f g h = cc
+and-false-fails a b c d f g h = grind arith
 
 -- the second of two tests is true, and is to be false
 pub and_not_false : (a b : Bool) → b ≡ true → a && not b ≡ false
-and_not_false true true h = refl
-and_not_false false true h = refl
-and_not_false a false h = cc
+and_not_false a b h = grind arith
 
 -- a test that is passed and one that isn't
 pub and_not_true : (a b : Bool) → a ≡ true → b ≡ false → a && not b ≡ true
-and_not_true true false h k = refl
-and_not_true true true h k = cc
-and_not_true false b h k = cc
+and_not_true a b h k = grind arith

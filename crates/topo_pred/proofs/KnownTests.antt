@@ -5,7 +5,7 @@ use Rattle.std.specs.Bool.{then_some}
 use Rattle.im_matrix.specs.declared.Loc.{Loc}
 use Rattle.im_matrix.specs.declared.Matrix.{Matrix}
 use Rattle.im_matrix.specs.Cells.{cell, dimension_at, rank}
-use Rattle.im_matrix.specs.Parts.{has}
+use Rattle.im_matrix.specs.Common.{has}
 use Rattle.topo_pred.specs.Later.{IsAtLeast, IsKnown}
 use Rattle.im_matrix.proofs.Laws.{is_present-later}
 use Rattle.topo_pred.proofs.Matrices.{everywhere, everywhere-most, itself}

@@ -1,5 +1,6 @@
 -- What is known of each name.
-use Rattle.std.proofs.Common.{◌≡◌, true, false, Some, refl, arith}
+use Rattle.std.proofs.Common.{◌≡◌, ◌∙◌, true, false, Some, refl, ap, arith}
+use Rattle.std.proofs.lemmas.Bool.Decides.{nat_tests}
 use Rattle.std.specs.Prelude.{[], ◌∷◌, codes, ◌&&◌, ◌||◌, nat_lt}
 use Rattle.std.specs.Bool.{then_some}
 use Rattle.im_matrix.specs.declared.Loc.TheVariants.{Interior, Boundary, Exterior}
@@ -8,8 +9,8 @@ use Rattle.im_matrix.specs.declared.Dim.TheVariants.{Empty, Zero, One, Two}
 use Rattle.im_matrix.specs.declared.Matrix.{Matrix}
 use Rattle.im_matrix.specs.declared.names.Name.TheVariants.{Intersects, Disjoint, Contains, Within, Covers, CoveredBy, Touches, Crosses, Overlaps, Equals, ContainsProperly}
 use Rattle.im_matrix.specs.Cells.{cell, dimension_at, rank, greater}
-use Rattle.im_matrix.specs.Parts.{has, figures_meet, a_leaves_b, b_leaves_a}
-use Rattle.im_matrix.specs.Names.{name_value, rule_value, one_of}
+use Rattle.im_matrix.specs.Common.{has, figures_meet, a_leaves_b, b_leaves_a}
+use Rattle.im_matrix.specs.Names.{Rule, one_of, crosses_rule, name_value, rule_value}
 use Rattle.topo_pred.specs.Later.{IsAtLeast, IsKnown}
 use Rattle.im_matrix.proofs.Laws.{greater-least, rank-most}
 use Rattle.topo_pred.proofs.Matrices.{is_points, is_lines, is_present-greater_zero, rank-greater_zero, rank-greater_one, rank-greater_one-two, itself, with_cells, with_cells-least}
@@ -37,23 +38,23 @@ rising-b_leaves_a =
 
 -- the matrix with an area common to both interiors
 abbrev interiors_met : Matrix → Matrix
-interiors_met m = with_cells m Two m.interior.boundary m.interior.exterior m.exterior.interior
+interiors_met m = with_cells m Two (dimension_at m (cell Interior Boundary)) (dimension_at m (cell Interior Exterior)) (dimension_at m (cell Exterior Interior))
 
 -- it is at least the matrix
 interiors_met-least : (m : Matrix) → IsAtLeast (interiors_met m) m
 interiors_met-least m =
-    with_cells-least m Two m.interior.boundary m.interior.exterior m.exterior.interior (rank-most m.interior.interior)
+    with_cells-least m Two (dimension_at m (cell Interior Boundary)) (dimension_at m (cell Interior Exterior)) (dimension_at m (cell Exterior Interior)) (rank-most (dimension_at m (cell Interior Interior)))
     (omega arith) (omega arith) (omega arith)
 
 -- the matrix where A's interior meets B's boundary in an area
 abbrev boundary_met : Matrix → Matrix
-boundary_met m = with_cells m m.interior.interior Two m.interior.exterior m.exterior.interior
+boundary_met m = with_cells m (dimension_at m (cell Interior Interior)) Two (dimension_at m (cell Interior Exterior)) (dimension_at m (cell Exterior Interior))
 
 -- it is at least the matrix
 boundary_met-least : (m : Matrix) → IsAtLeast (boundary_met m) m
 boundary_met-least m =
-    with_cells-least m m.interior.interior Two m.interior.exterior m.exterior.interior (omega arith)
-    (rank-most m.interior.boundary) (omega arith) (omega arith)
+    with_cells-least m (dimension_at m (cell Interior Interior)) Two (dimension_at m (cell Interior Exterior)) (dimension_at m (cell Exterior Interior)) (omega arith)
+    (rank-most (dimension_at m (cell Interior Boundary))) (omega arith) (omega arith)
 
 -- Intersects is true for good once a point is common
 pub intersects-known : (a b : Dim) (m : Matrix) → IsKnown (name_value Intersects a b) m (then_some (figures_meet m) true)
@@ -169,96 +170,56 @@ touches-known a b m h = touches_rule-known m
 pub touches-points : (m : Matrix) → IsKnown (name_value Touches Zero Zero) m (Some false)
 touches-points m = known_value (name_value Touches Zero Zero) m false (λ later more. refl)
 
--- Crosses of a lower figure is true for good once A's interior is in B's and outside B
-crosses_below-rule :
-    (m : Matrix) → IsKnown (rule_value (one_of (codes "T*T******" ∷ []))) m (then_some (has m Interior Interior && has m Interior Exterior) true)
-crosses_below-rule m =
-    confirmed_by (rule_value (one_of (codes "T*T******" ∷ []))) (λ x. has x Interior Interior && has x Interior Exterior) m
-    (λ x. two_cells (has x Interior Interior) (has x Interior Exterior))
-    (rising-and (λ x. has x Interior Interior) (λ x. has x Interior Exterior) (rising-has Interior Interior) (rising-has Interior Exterior))
-    refl
+-- ---- the rules of Crosses, by the dimensions
+crosses_rule-below : (a b : Dim) → nat_lt (rank a) (rank b) ≡ true → crosses_rule a b ≡ one_of (codes "T*T******" ∷ [])
+crosses_rule-below a b h = grind (arith, nat_tests)
 
+crosses_rule-above : (a b : Dim) → nat_lt (rank b) (rank a) ≡ true → crosses_rule a b ≡ one_of (codes "T*****T**" ∷ [])
+crosses_rule-above a b h = grind (arith, nat_tests)
+
+crosses_rule-level :
+    (a b : Dim) → (a ≡ One → b ≡ One → ⊥) → nat_lt (rank a) (rank b) ≡ false → nat_lt (rank b) (rank a) ≡ false
+    → crosses_rule a b ≡ one_of []
+crosses_rule-level a b h k l = grind (arith, nat_tests)
+
+-- Crosses of a lower figure is true for good once A's interior is in B's and outside B
 pub crosses_below-known :
     (a b : Dim) (m : Matrix) → nat_lt (rank a) (rank b) ≡ true →
     IsKnown (name_value Crosses a b) m (then_some (has m Interior Interior && has m Interior Exterior) true)
-crosses_below-known Empty Zero m h = crosses_below-rule m
-crosses_below-known Empty One m h = crosses_below-rule m
-crosses_below-known Empty Two m h = crosses_below-rule m
-crosses_below-known Zero One m h = crosses_below-rule m
-crosses_below-known Zero Two m h = crosses_below-rule m
-crosses_below-known One Two m h = crosses_below-rule m
-crosses_below-known Empty Empty m h = cc
-crosses_below-known Zero Empty m h = cc
-crosses_below-known Zero Zero m h = cc
-crosses_below-known One Empty m h = cc
-crosses_below-known One Zero m h = cc
-crosses_below-known One One m h = cc
-crosses_below-known Two Empty m h = cc
-crosses_below-known Two Zero m h = cc
-crosses_below-known Two One m h = cc
-crosses_below-known Two Two m h = cc
-
--- Crosses of a higher figure is true for good once B's interior is in A's and outside A
-crosses_above-rule :
-    (m : Matrix) → IsKnown (rule_value (one_of (codes "T*****T**" ∷ []))) m (then_some (has m Interior Interior && has m Exterior Interior) true)
-crosses_above-rule m =
-    confirmed_by (rule_value (one_of (codes "T*****T**" ∷ []))) (λ x. has x Interior Interior && has x Exterior Interior) m
-    (λ x. two_cells (has x Interior Interior) (has x Exterior Interior))
-    (rising-and (λ x. has x Interior Interior) (λ x. has x Exterior Interior) (rising-has Interior Interior) (rising-has Exterior Interior))
+crosses_below-known a b m h =
+    confirmed_by (name_value Crosses a b) (λ x. has x Interior Interior && has x Interior Exterior) m
+    (λ x. ap (λ (r : Rule). rule_value r x) (crosses_rule-below a b h) ∙ two_cells (has x Interior Interior) (has x Interior Exterior))
+    (rising-and (λ x. has x Interior Interior) (λ x. has x Interior Exterior) (rising-has Interior Interior) (rising-has Interior Exterior))
     refl
 
+-- Crosses of a higher figure is true for good once B's interior is in A's and outside A
 pub crosses_above-known :
     (a b : Dim) (m : Matrix) → nat_lt (rank b) (rank a) ≡ true →
     IsKnown (name_value Crosses a b) m (then_some (has m Interior Interior && has m Exterior Interior) true)
-crosses_above-known Zero Empty m h = crosses_above-rule m
-crosses_above-known One Empty m h = crosses_above-rule m
-crosses_above-known Two Empty m h = crosses_above-rule m
-crosses_above-known One Zero m h = crosses_above-rule m
-crosses_above-known Two Zero m h = crosses_above-rule m
-crosses_above-known Two One m h = crosses_above-rule m
-crosses_above-known Empty Empty m h = cc
-crosses_above-known Empty Zero m h = cc
-crosses_above-known Empty One m h = cc
-crosses_above-known Empty Two m h = cc
-crosses_above-known Zero Zero m h = cc
-crosses_above-known Zero One m h = cc
-crosses_above-known Zero Two m h = cc
-crosses_above-known One One m h = cc
-crosses_above-known One Two m h = cc
-crosses_above-known Two Two m h = cc
+crosses_above-known a b m h =
+    confirmed_by (name_value Crosses a b) (λ x. has x Interior Interior && has x Exterior Interior) m
+    (λ x. ap (λ (r : Rule). rule_value r x) (crosses_rule-above a b h) ∙ two_cells (has x Interior Interior) (has x Exterior Interior))
+    (rising-and (λ x. has x Interior Interior) (λ x. has x Exterior Interior) (rising-has Interior Interior) (rising-has Exterior Interior))
+    refl
 
 -- Crosses of two figures of one dimension that aren't lines is false
 pub crosses_level-known :
     (a b : Dim) (m : Matrix) → (a ≡ One → b ≡ One → ⊥) → nat_lt (rank a) (rank b) ≡ false → nat_lt (rank b) (rank a) ≡ false →
     IsKnown (name_value Crosses a b) m (Some false)
-crosses_level-known Empty Empty m h k l = known_value (name_value Crosses Empty Empty) m false (λ later more. refl)
-crosses_level-known Zero Zero m h k l = known_value (name_value Crosses Zero Zero) m false (λ later more. refl)
-crosses_level-known One One m h k l = absurd (h refl refl)
-crosses_level-known Two Two m h k l = known_value (name_value Crosses Two Two) m false (λ later more. refl)
-crosses_level-known Empty Zero m h k l = cc
-crosses_level-known Empty One m h k l = cc
-crosses_level-known Empty Two m h k l = cc
-crosses_level-known Zero Empty m h k l = cc
-crosses_level-known Zero One m h k l = cc
-crosses_level-known Zero Two m h k l = cc
-crosses_level-known One Empty m h k l = cc
-crosses_level-known One Zero m h k l = cc
-crosses_level-known One Two m h k l = cc
-crosses_level-known Two Empty m h k l = cc
-crosses_level-known Two Zero m h k l = cc
-crosses_level-known Two One m h k l = cc
+crosses_level-known a b m h k l =
+    known_value (name_value Crosses a b) m false (λ later more. ap (λ (r : Rule). rule_value r later) (crosses_rule-level a b h k l))
 
 -- Crosses of two lines is false for good once the interiors meet in more than points
 pub crosses_lines-known :
     (m : Matrix) → IsKnown (name_value Crosses One One) m (then_some (nat_lt 1 (rank (dimension_at m (cell Interior Interior)))) false)
 crosses_lines-known m =
-    let d = m.interior.interior in
+    let d = (dimension_at m (cell Interior Interior)) in
     refuted_by (name_value Crosses One One) (λ x. has x Interior Interior) (λ x. nat_lt 1 (rank (dimension_at x (cell Interior Interior)))) m
-    (with_cells m (greater d Zero) m.interior.boundary m.interior.exterior m.exterior.interior)
+    (with_cells m (greater d Zero) (dimension_at m (cell Interior Boundary)) (dimension_at m (cell Interior Exterior)) (dimension_at m (cell Exterior Interior)))
     (λ x. is_points (dimension_at x (cell Interior Interior)))
     (rising-rank 1 Interior Interior)
     refl
-    (with_cells-least m (greater d Zero) m.interior.boundary m.interior.exterior m.exterior.interior (greater-least d Zero) (omega arith) (omega arith) (omega arith))
+    (with_cells-least m (greater d Zero) (dimension_at m (cell Interior Boundary)) (dimension_at m (cell Interior Exterior)) (dimension_at m (cell Exterior Interior)) (greater-least d Zero) (omega arith) (omega arith) (omega arith))
     (is_present-greater_zero d)
     (rank-greater_zero d)
 
@@ -288,15 +249,15 @@ overlaps_areas-known m = overlaps_rule-known m
 pub overlaps_lines-known :
     (m : Matrix) → IsKnown (name_value Overlaps One One) m (then_some (nat_lt 2 (rank (dimension_at m (cell Interior Interior)))) false)
 overlaps_lines-known m =
-    let d = m.interior.interior in
+    let d = (dimension_at m (cell Interior Interior)) in
     refuted_by (name_value Overlaps One One)
     (λ x. nat_lt 1 (rank (dimension_at x (cell Interior Interior))) && has x Interior Exterior && has x Exterior Interior)
     (λ x. nat_lt 2 (rank (dimension_at x (cell Interior Interior)))) m
-    (with_cells m (greater d One) m.interior.boundary Two Two)
+    (with_cells m (greater d One) (dimension_at m (cell Interior Boundary)) Two Two)
     (λ x. is_lines (dimension_at x (cell Interior Interior)) (has x Interior Exterior) (has x Exterior Interior))
     (rising-rank 2 Interior Interior)
     refl
-    (with_cells-least m (greater d One) m.interior.boundary Two Two (greater-least d One) (omega arith) (rank-most m.interior.exterior) (rank-most m.exterior.interior))
+    (with_cells-least m (greater d One) (dimension_at m (cell Interior Boundary)) Two Two (greater-least d One) (omega arith) (rank-most (dimension_at m (cell Interior Exterior))) (rank-most (dimension_at m (cell Exterior Interior))))
     (rank-greater_one d)
     (rank-greater_one-two d)
 

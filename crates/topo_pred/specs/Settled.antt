@@ -1,22 +1,15 @@
--- When one character of a pattern is settled.
-use Rattle.std.specs.Prelude.{Bool, true, false}
+-- When one mark of a pattern is settled, though its cell may still rise.
+use Rattle.std.specs.Prelude.{Bool, ◌&&◌, nat_lt, nat_le}
 use Rattle.im_matrix.specs.declared.Dim.{Dim}
-use Rattle.im_matrix.specs.declared.Dim.TheVariants.{One, Two}
+use Rattle.im_matrix.specs.declared.Dim.TheVariants.{Two}
 use Rattle.im_matrix.specs.declared.patterns.Mark.{Mark}
-use Rattle.im_matrix.specs.declared.patterns.Mark.TheVariants.{Present, Absent, Any, Points, Lines, Areas}
-use Rattle.im_matrix.specs.Patterns.{is_present}
+use Rattle.im_matrix.specs.Cells.{rank}
+use Rattle.im_matrix.specs.Patterns.{range_of}
 
--- settled false: 'F' and a cell that isn't Empty, '0' and One or Two, '1' and Two
+-- settled false: the dimension is above all that the mark accepts
 abbrev pub fails_for_good : Mark → Dim → Bool
-fails_for_good Absent d = is_present d
-fails_for_good Points One = true
-fails_for_good Points Two = true
-fails_for_good Lines Two = true
-fails_for_good k d = false
+fails_for_good k d = nat_lt (rank (range_of k).1) (rank d)
 
--- settled true: '*', 'T' and a cell that isn't Empty, '2' and Two
+-- settled true: the mark accepts this dimension and all above
 abbrev pub holds_for_good : Mark → Dim → Bool
-holds_for_good Any d = true
-holds_for_good Present d = is_present d
-holds_for_good Areas Two = true
-holds_for_good k d = false
+holds_for_good k d = nat_le (rank (range_of k).0) (rank d) && nat_le (rank Two) (rank (range_of k).1)

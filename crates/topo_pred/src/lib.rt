@@ -70,7 +70,7 @@ impl Progress {
 
     /// Takes in that the cell's points have at least this dimension. No value is known yet.
     pub fn feed(&mut self, c: Cell, d: Dim)
-        requires { IsOpen self.old }
+        requires undecided { IsOpen self.old }
         ensures query { query_of self.new ≡ query_of self.old }
         ensures value { (m : Matrix) → value_at self.new m ≡ value_at self.old m }
         ensures matrix { IsRaised (matrix_of self.old) (matrix_of self.new) c d }

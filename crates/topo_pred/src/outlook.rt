@@ -5,7 +5,7 @@ ghost use Rattle.std.specs.List.{list_any, list_all};
 ghost use Rattle.im_matrix.specs.Cells.{all_cells, cell, dimension_at, rank};
 ghost use Rattle.im_matrix.specs.Patterns.{mark_at, text_matches, pattern_text};
 ghost use Rattle.im_matrix.specs.declared.Loc.TheVariants.{Interior, Boundary, Exterior};
-ghost use Rattle.im_matrix.specs.Parts.{has, a_leaves_b, b_leaves_a};
+ghost use Rattle.im_matrix.specs.Common.{has, a_leaves_b, b_leaves_a};
 ghost use Rattle.im_matrix.specs.Names.{name_value};
 ghost use Rattle.topo_pred.specs.Later.{IsKnown};
 ghost use Rattle.topo_pred.specs.Settled.{fails_for_good, holds_for_good};
@@ -22,24 +22,16 @@ const INTERIORS: Cell = Cell {
 fn fails_for_good(mark: Mark, d: Dim) -> bool
     ensures fails { result ≡ fails_for_good mark d }
 {
-    match mark {
-        Mark::Absent => !matches!(d, Dim::Empty),
-        Mark::Points => matches!(d, Dim::One | Dim::Two),
-        Mark::Lines => matches!(d, Dim::Two),
-        Mark::Present | Mark::Any | Mark::Areas => false,
-    }
+    let (_, greatest) = mark.range();
+    greatest < d
 }
 
 /// Whether each dimension that the cell may still come to is one that the mark asks for.
 fn holds_for_good(mark: Mark, d: Dim) -> bool
     ensures holds { result ≡ holds_for_good mark d }
 {
-    match mark {
-        Mark::Any => true,
-        Mark::Present => !matches!(d, Dim::Empty),
-        Mark::Areas => matches!(d, Dim::Two),
-        Mark::Absent | Mark::Points | Mark::Lines => false,
-    }
+    let (least, greatest) = mark.range();
+    least <= d && greatest == Dim::Two
 }
 
 /// Whether some character of the pattern fails for good.

@@ -1,36 +1,14 @@
-use Rattle.std.proofs.Common.{◌≡◌, ◌∙◌, sym}
-use Rattle.std.specs.Prelude.{◌&&◌}
-use Rattle.im_matrix.specs.declared.Loc.TheVariants.{Interior, Boundary, Exterior}
-use Rattle.im_matrix.specs.Patterns.{row_accepts}
-use Rattle.im_matrix.proofs.PatternTexts.{rows_in_order}
-use Rattle.im_matrix.proofs.CellTests.{and-true, and-false}
+use Rattle.std.proofs.Common.{Bool, rules, tests}
+use Rattle.im_matrix.specs.declared.Cell.{Cell}
+use Rattle.std.proofs.lemmas.Iterator.{YieldsList-from_slice}
+use Rattle.std.proofs.lemmas.Iterator.Search.{all_from_yields_List}
+use Rattle.im_matrix.specs.Cells.{all_cells, dimension_at}
+use Rattle.im_matrix.specs.Patterns.{accepts, mark_at, mark_character}
 use Rattle.im_matrix.proofs.patterns.Pattern.matches.Goals as goal
-use Rattle.im_matrix.proofs.patterns.Pattern.matches.Goals.{then-matches, else-matches}
 
-pub returns-then-matches-2 : goal.returns-then-matches-2
-returns-then-matches-2 c =
-    let m = c.args.m.now in
-    let p = c.args.self.now in
-    let i = row_accepts p.interior m Interior in
-    let b = row_accepts p.boundary m Boundary in
-    let e = row_accepts p.exterior m Exterior in
-    let both : i && b ≡ c.if-matches.value =
-    elim c.if-matches.branch [
-      | then-matches w ↦ and-true i b (sym c.matches.ensures.matches ∙ w.if-matches.true) ∙ sym w.matches-then-matches.ensures.matches ∙ sym w.value-is
-      | else-matches w ↦ and-false i b (sym c.matches.ensures.matches ∙ w.if-matches.false) ∙ sym w.if-matches.false ∙ sym w.value-is
-    ] in
-    record { matches = c.matches-then-matches-2.ensures.matches ∙ sym (and-true (i && b) e (both ∙ c.if-matches-2.true)) ∙ rows_in_order p m }
-
-pub returns-else-matches-2 : goal.returns-else-matches-2
-returns-else-matches-2 c =
-    let m = c.args.m.now in
-    let p = c.args.self.now in
-    let i = row_accepts p.interior m Interior in
-    let b = row_accepts p.boundary m Boundary in
-    let e = row_accepts p.exterior m Exterior in
-    let both : i && b ≡ c.if-matches.value =
-    elim c.if-matches.branch [
-      | then-matches w ↦ and-true i b (sym c.matches.ensures.matches ∙ w.if-matches.true) ∙ sym w.matches-then-matches.ensures.matches ∙ sym w.value-is
-      | else-matches w ↦ and-false i b (sym c.matches.ensures.matches ∙ w.if-matches.false) ∙ sym w.if-matches.false ∙ sym w.value-is
-    ] in
-    record { matches = c.if-matches-2.false ∙ sym (and-false (i && b) e (both ∙ c.if-matches-2.false)) ∙ rows_in_order p m }
+pub returns : goal.returns
+returns c =
+    let fits : Cell → Bool = λ d. accepts (mark_character (mark_at c.args.self.now d)) (dimension_at c.args.m.now d) in
+    record {
+      matches = all_from_yields_List fits _ _ _ c.all.ensures.ran (YieldsList-from_slice all_cells cc) (λ x b q k. search (rules, tests));
+    }
