@@ -209,7 +209,12 @@ fn relate_spaces<R: Threads + Sync + AllocGlobal>(
     let mut files = NamedBytes::new(alloc);
     files.add("spaces.wkt", spaces.as_slice())?;
     let list = ["geosop", "-a", "spaces.wkt", "-b", "POINT (0 0)", "relate"];
-    run_on(rt, &list, MemInputs::new(files, PlaceList::new(alloc), 65_536), &[])
+    run_on(
+        rt,
+        &list,
+        MemInputs::new(files, PlaceList::new(alloc), 65_536),
+        &[],
+    )
 }
 
 #[test]

@@ -120,23 +120,38 @@ length-owned owner way =
 length-lines : (place : ℕ) (lines : List (List Pt)) → length (edges_of_lines place lines) ≤ sum_by length lines
 length-lines place [] = omega arith
 length-lines place (line ∷ lines) =
-    omega (arith, length-append (owned_by (Line place) (edges_of line)) (edges_of_lines (place + 1) lines), length-owned (Line place) line,
-    length-lines (place + 1) lines, sum_by-cons length line lines)
+    omega (
+      arith,
+      length-append (owned_by (Line place) (edges_of line)) (edges_of_lines (place + 1) lines),
+      length-owned (Line place) line,
+      length-lines (place + 1) lines,
+      sum_by-cons length line lines,
+    )
 
 -- of rings
 length-rings : (place ring : ℕ) (rings : List (List Pt)) → length (edges_of_area_rings place ring rings) ≤ sum_by length rings
 length-rings place ring [] = omega arith
 length-rings place ring (way ∷ rings) =
-    omega (arith, length-append (owned_by (Ring place ring) (edges_of way)) (edges_of_area_rings place (ring + 1) rings),
-    length-owned (Ring place ring) way, length-rings place (ring + 1) rings, sum_by-cons length way rings)
+    omega (
+      arith,
+      length-append (owned_by (Ring place ring) (edges_of way)) (edges_of_area_rings place (ring + 1) rings),
+      length-owned (Ring place ring) way,
+      length-rings place (ring + 1) rings,
+      sum_by-cons length way rings,
+    )
 
 -- of areas
 length-areas : (place : ℕ) (areas : List Area) → length (edges_of_areas place areas) ≤ sum_by positions_of_area areas
 length-areas place [] = omega arith
 length-areas place (area ∷ areas) =
-    omega (arith, length-append (edges_of_area_rings place 0 (rings_of area)) (edges_of_areas (place + 1) areas),
-    length-rings place 0 (rings_of area), length-areas (place + 1) areas, sum_by-cons positions_of_area area areas,
-    sum_by-cons length area.shell area.holes)
+    omega (
+      arith,
+      length-append (edges_of_area_rings place 0 (rings_of area)) (edges_of_areas (place + 1) areas),
+      length-rings place 0 (rings_of area),
+      length-areas (place + 1) areas,
+      sum_by-cons positions_of_area area areas,
+      sum_by-cons length area.shell area.holes,
+    )
 
 -- of a figure
 pub few_edges : (f : Figure) → IsWellShaped f → length (edges_of_figure f) ≤ 1048576
