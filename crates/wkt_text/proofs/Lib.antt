@@ -8,7 +8,6 @@ pub mod Exact
 pub mod FirstFaults
 pub mod Groups
 pub mod Keeping
-pub mod Laws
 pub mod Moves
 pub mod Parses
 pub mod Progress
