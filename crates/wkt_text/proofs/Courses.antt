@@ -1,7 +1,6 @@
 -- The tokens decide where the reader comes, and what each of them is for.
-use Rattle.std.proofs.Common.{◌≡◌, Some, Result, Ok, Err, List, [], ◌∷◌, ◌++◌, ◌⊎◌, inl, inr, refl, sym, ap, subst, ◌∙◌}
+use Rattle.std.proofs.Common.{◌≡◌, Some, Result, Ok, Err, List, [], ◌∷◌, ◌++◌, map, ◌⊎◌, inl, inr, refl, sym, ap, subst, ◌∙◌}
 use Rattle.std.proofs.lemmas.Option.{some_pair_parts}
-use Rattle.text_laws.proofs.Pairs.{heads_same}
 use Rattle.wkt_text.specs.declared.token.Token.{Token}
 use Rattle.wkt_text.specs.declared.state.Role.{Role}
 use Rattle.wkt_text.specs.declared.state.Control.{Control}
@@ -25,6 +24,9 @@ pub goes_push : (front : List Move) (c c' c'' : Control) (t : Token) (r : Role) 
     Goes c (front ++ move t r ∷ []) c''
 goes_push [] c c' c'' t r g e = (c'', ap (λ u. advance u t) g ∙ e, refl)
 goes_push (x ∷ front) c c' c'' t r (c₁, e₁, g) e = (c₁, e₁, goes_push front c₁ c' c'' t r g e)
+
+heads_same : {a b : Token} {s t : List Token} → a ∷ s ≡ b ∷ t → (a ≡ b) × (s ≡ t)
+heads_same e = (cc, cc)
 
 pub goes_same : (f g : List Move) (c c₁ c₂ : Control) → Goes c f c₁ → Goes c g c₂ → tokens_in f ≡ tokens_in g → (f ≡ g) × (c₁ ≡ c₂)
 goes_same [] [] c c₁ c₂ e₁ e₂ e = (refl, sym e₁ ∙ e₂)
@@ -110,12 +112,69 @@ pub builds_push : (front : List Move) (b c d : Build) (t : Token) (r : Role) →
 builds_push front b c d t r e f =
     builds-append front (move t r ∷ []) b ∙ ap (λ u. u >>= λ c. builds c (move t r ∷ [])) e ∙ ap (λ u. u >>= λ c. Ok c) f
 
+pub builds_one : (b d : Build) (t : Token) (r : Role) → builds b (move t r ∷ []) ≡ Ok d → act b r t ≡ Ok d
+builds_one b d t r e = let (c, f, g) = bind_ok (act b r t) (λ c. Ok c) d e in f ∙ g
+
 -- ---- tokens
 
 pub tokens_in-push : (front : List Move) (t : Token) (r : Role) → tokens_in (front ++ move t r ∷ []) ≡ tokens_in front ++ t ∷ []
 tokens_in-push [] t r = refl
 tokens_in-push (x ∷ front) t r = ap (λ u. x.0 ∷ u) (tokens_in-push front t r)
 
+-- The tokens of pairs.
+abbrev firsts : {A : Type 0} → List (Token × A) → List Token
+firsts xs = map (λ x. x.0) xs
+
+-- Pairs whose tokens end so.
+pub record Pushed (A : Type 0) (xs : List (Token × A)) (ts : List Token) (t : Token) : Type 0 where
+  pub front : List (Token × A)
+  pub last : A
+  pub joined : xs ≡ front ++ (t, last) ∷ []
+  pub tokens : firsts front ≡ ts
+
+pub tokens_pushed : {A : Type 0} (xs : List (Token × A)) (ts : List Token) (t : Token) → firsts xs ≡ ts ++ t ∷ [] → Pushed A xs ts t
+tokens_pushed [] [] t e = absurd (cc)
+tokens_pushed [] (u ∷ ts) t e = absurd (cc)
+tokens_pushed ((v, a) ∷ []) [] t e =
+    record { front = []; last = a; joined = ap (λ w. (w, a) ∷ []) (heads_same {a = v} {b = t} e).0; tokens = refl }
+tokens_pushed (x ∷ y ∷ xs) [] t e = absurd (no_tail (heads_same e).1)
+  where
+    no_tail : {u : Token} {us : List Token} → u ∷ us ≡ [] → ⊥
+    no_tail e = cc
+tokens_pushed ((v, a) ∷ xs) (u ∷ ts) t e =
+    let (same, rest) = heads_same {a = v} {b = u} e in
+    let more = tokens_pushed xs ts t rest in
+    record {
+      front = (v, a) ∷ more.front;
+      last = more.last;
+      joined = ap (λ w. (v, a) ∷ w) more.joined;
+      tokens = λ i. same i ∷ more.tokens i;
+    }
+
 pub run_goes : (moves : List Move) (c : Control) → Run c moves → (d : Control) × Goes c moves d × (d.step ≡ Done)
 run_goes [] c h = (c, refl, h)
 run_goes (x ∷ rest) c (c', e, h) = let (d, g, done) = run_goes rest c' h in (d, (c', e, g), done)
+
+pub goes_parts : (front rest : List Move) (c d : Control) → Goes c (front ++ rest) d → (e : Control) × Goes c front e × Goes e rest d
+goes_parts [] rest c d h = (c, refl, h)
+goes_parts (x ∷ front) rest c d (c₁, e, h) = let (f, g, r) = goes_parts front rest c₁ d h in (f, (c₁, e, g), r)
+
+-- Pairs whose tokens are in two parts are in two parts.
+pub record Parted (A : Type 0) (xs : List (Token × A)) (ts : List Token) : Type 0 where
+  pub front : List (Token × A)
+  pub rest : List (Token × A)
+  pub joined : xs ≡ front ++ rest
+  pub tokens : firsts front ≡ ts
+
+pub tokens_parted : {A : Type 0} (xs : List (Token × A)) (ts us : List Token) → firsts xs ≡ ts ++ us → Parted A xs ts
+tokens_parted xs [] us e = record { front = []; rest = xs; joined = refl; tokens = refl }
+tokens_parted [] (t ∷ ts) us e = absurd (cc)
+tokens_parted ((v, a) ∷ xs) (t ∷ ts) us e =
+    let (same, rest) = heads_same {a = v} {b = t} e in
+    let more = tokens_parted xs ts us rest in
+    record {
+      front = (v, a) ∷ more.front;
+      rest = more.rest;
+      joined = ap (λ u. (v, a) ∷ u) more.joined;
+      tokens = λ i. same i ∷ more.tokens i;
+    }

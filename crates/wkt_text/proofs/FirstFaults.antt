@@ -2,7 +2,6 @@
 use Rattle.std.proofs.Common.{◌≡◌, ℕ, zero, suc, nat_lt, cond, Bool, true, false, Option, Some, None, option_map, Ok, List, [], ◌∷◌, ◌++◌, ◌⊎◌, inl, inr, refl, sym, ap, subst, ◌∙◌}
 use Rattle.std.proofs.lemmas.List.{append_assoc, same_from_push}
 use Rattle.std.proofs.lemmas.Option.{none-some, some_pair_parts}
-use Rattle.text_laws.proofs.Pairs.{Pushed, pairs_pushed}
 use Rattle.wkt_text.specs.declared.word.TypeWord.{TypeWord}
 use Rattle.wkt_text.specs.declared.word.TypeWord.TheVariants as type
 use Rattle.wkt_text.specs.declared.word.Tag.{Tag}
@@ -37,7 +36,7 @@ use Rattle.wkt_text.specs.Faults.{IsRight, Continues, IsRefused, IsTypeExpected,
 use Rattle.wkt_text.proofs.Parses.{at, start, Run, Goes, run_spelled}
 use Rattle.wkt_text.proofs.Spells.{spelled_run}
 use Rattle.wkt_text.proofs.Ends.{ends}
-use Rattle.wkt_text.proofs.Courses.{goes_split, goes_join, goes_push, goes_same, Last, last_of, builds, builds_front, builds_push, tokens_in-push, ok_err}
+use Rattle.wkt_text.proofs.Courses.{goes_split, goes_join, goes_push, goes_same, Last, last_of, builds, builds_front, builds_push, Pushed, tokens_pushed, tokens_in-push, ok_err}
 
 -- The reader has taken these tokens: it is there, and has built that.
 pub record Taken (ts : List Token) (c : Control) (b : Build) : Type 0 where
@@ -123,8 +122,8 @@ pub right_taken : (ts : List Token) (c : Control) (b : Build) (t : Token) → Ta
     (c' : Control) × (b' : Build) × IsTaken c b t c' b'
 right_taken ts c b t k n = go (continues_taken ts c b t p.last k one)
   where
-    p : Pushed Token TokenRule n.front ts t
-    p = pairs_pushed n.front ts t n.tokens
+    p : Pushed TokenRule n.front ts t
+    p = tokens_pushed n.front ts t n.tokens
 
     one : Continues ts t p.last
     one = record {

@@ -177,34 +177,44 @@ back_after site.Top zero tag t rest step = nothing (at_after (at step site.Top z
 back_after site.Top (suc d) tag token.Comma rest step =
     λ (g, r, e, (gs, r₂, e₂, up)). (more g gs, r₂, put _ (e ∙ ap (geometry_then g (suc d)) e₂), up)
 back_after site.Top (suc d) tag token.Close rest step = λ h. (none, rest, refl, is_ended d tag rest h)
+back_after site.Top (suc d) tag other rest step = tt
 back_after site.Point d tag token.Close rest step = λ h. (rest, refl, is_ended d tag rest h)
+back_after site.Point d tag other rest step = tt
 back_after (site.Line many) d tag token.Comma rest step =
     λ (p, r, e, (ps, r₂, e₂, up)). (p ∷ ps, r₂, put _ (e ∙ ap (position_then WayY p) e₂), up)
 back_after (site.Line Alone) d tag token.Close rest step = λ h. ([], rest, refl, is_ended d tag rest h)
 back_after (site.Line Member) d tag token.Close rest step = λ h. ([], rest, refl, h)
+back_after (site.Line many) d tag other rest step = tt
 back_after site.Points d tag token.Comma rest step = λ (x, r, e, (xs, r₂, e₂, up)). (x ∷ xs, r₂, put _ (e ∙ ap (element_then x) e₂), up)
 back_after site.Points d tag token.Close rest step = λ h. ([], rest, refl, is_ended d tag rest h)
+back_after site.Points d tag other rest step = tt
 back_after site.Element d tag token.Close rest step = λ h. (rest, refl, h)
+back_after site.Element d tag other rest step = tt
 back_after site.Lines d tag token.Comma rest step = λ (x, r, e, (xs, r₂, e₂, up)). (x ∷ xs, r₂, put _ (e ∙ ap (way_then EndLine x) e₂), up)
 back_after site.Lines d tag token.Close rest step = λ h. ([], rest, refl, is_ended d tag rest h)
+back_after site.Lines d tag other rest step = tt
 back_after site.Polygons d tag token.Comma rest step =
     λ (x, r, e, (xs, r₂, e₂, up)). (x ∷ xs, r₂, put _ (e ∙ ap (surface_then Mark x) e₂), up)
 back_after site.Polygons d tag token.Close rest step = λ h. ([], rest, refl, is_ended d tag rest h)
+back_after site.Polygons d tag other rest step = tt
 back_after (site.Polygon many Shell) d tag token.Close rest step = λ h. tt
+back_after (site.Polygon many Shell) d tag other rest step = tt
 back_after (site.Polygon many Hole) d tag token.Comma rest step =
     λ (x, r, e, (xs, r₂, e₂, up)). (x ∷ xs, r₂, put _ (e ∙ ap (way_then EndHole x) e₂), up)
 back_after (site.Polygon Alone Hole) d tag token.Close rest step = λ h. ([], rest, refl, is_ended d tag rest h)
 back_after (site.Polygon Member Hole) d tag token.Close rest step = λ h. ([], rest, refl, h)
+back_after (site.Polygon many Hole) d tag other rest step = tt
 back_after (site.Polygon many Hollow) d tag token.Comma rest step = λ (r, e, (n, r₂, e₂, up)). (suc n, r₂, put _ (e ∙ put _ e₂), up)
 back_after (site.Polygon Alone Hollow) d tag token.Close rest step = λ h. (0, rest, refl, is_ended d tag rest h)
 back_after (site.Polygon Member Hollow) d tag token.Close rest step = λ h. (0, rest, refl, h)
+back_after (site.Polygon many Hollow) d tag other rest step = tt
 back_after (site.Ring many ring.Shell) d tag token.Comma rest step =
     λ (p, r, e, (ps, r₂, e₂, up)). (p ∷ ps, r₂, put _ (e ∙ ap (position_then WayY p) e₂), up)
 back_after (site.Ring many ring.Hole) d tag token.Comma rest step =
     λ (p, r, e, (ps, r₂, e₂, up)). (p ∷ ps, r₂, put _ (e ∙ ap (position_then WayY p) e₂), up)
 back_after (site.Ring many ring.Shell) d tag token.Close rest step = λ h. ([], rest, refl, h)
 back_after (site.Ring many ring.Hole) d tag token.Close rest step = λ h. ([], rest, refl, h)
-back_after s d tag other rest step = tt
+back_after (site.Ring many kind) d tag other rest step = tt
 
 -- ---- items, positions
 
@@ -213,28 +223,33 @@ back_item : (s : Site) (d : ℕ) (tag : Tag) (t : Token) (rest : List Move) →
 back_item site.Points d tag token.Empty rest = λ h. (empty_element, rest, refl, h)
 back_item site.Points d tag token.Open rest = λ (p, r, e, (r₂, e₂, up)). (bracketed p, r₂, put _ (e ∙ ap (position_then PointY p) e₂), up)
 back_item site.Points d tag (token.Number n) rest = λ (y, m, r, e, up). (bare (record { x = n; y = y; more = m }), r, put _ e, up)
+back_item site.Points d tag other rest = tt
 back_item site.Lines d tag token.Empty rest = λ h. (empty_way, rest, refl, h)
 back_item site.Lines d tag token.Open rest = λ (p, r, e, (ps, r₂, e₂, up)). (along p ps, r₂, put _ (e ∙ ap (position_then WayY p) e₂), up)
+back_item site.Lines d tag other rest = tt
 back_item site.Polygons d tag token.Empty rest = λ h. (empty_surface, rest, refl, h)
 back_item site.Polygons d tag token.Open rest = λ h. open_surface h
   where
-    open_surface : ItemOf (site.Polygon Member Shell) tag d rest →
-        OneOf (surface_then {tag = tag} Mark) (AfterPolygons tag d) (move token.Open Mark ∷ rest)
+    open_surface : ItemOf (site.Polygon Member Shell) tag d rest → OneOf (surface_then {tag =
+        tag} Mark) (AfterPolygons tag d) (move token.Open Mark ∷ rest)
     open_surface (inl (r, e, (n, r₂, e₂, up))) = (hollow n, r₂, put _ (e ∙ put _ e₂), up)
     open_surface (inr (p, ps, r, e, (ws, r₂, e₂, up))) = (area p ps ws, r₂, put _ (e ∙ ap (along_then EndShell p ps) e₂), up)
+back_item site.Polygons d tag other rest = tt
 back_item (site.Polygon many Shell) d tag token.Empty rest = λ h. inl (rest, refl, h)
 back_item (site.Polygon many Shell) d tag token.Open rest =
     λ (p, r, e, (ps, r₂, e₂, up)). inr (p, ps, r₂, put _ (e ∙ ap (position_then WayY p) e₂), up)
+back_item (site.Polygon many Shell) d tag other rest = tt
 back_item (site.Polygon many Hole) d tag token.Empty rest = λ h. (empty_way, rest, refl, h)
 back_item (site.Polygon many Hole) d tag token.Open rest =
     λ (p, r, e, (ps, r₂, e₂, up)). (along p ps, r₂, put _ (e ∙ ap (position_then WayY p) e₂), up)
+back_item (site.Polygon many Hole) d tag other rest = tt
 back_item (site.Polygon many Hollow) d tag token.Empty rest = λ h. (rest, refl, h)
+back_item (site.Polygon many Hollow) d tag other rest = tt
 back_item site.Top d tag t rest = nothing (advance_by Item (at Item site.Top d tag) t) t rest
 back_item site.Point d tag t rest = nothing (advance_by Item (at Item site.Point d tag) t) t rest
 back_item (site.Line many) d tag t rest = nothing (advance_by Item (at Item (site.Line many) d tag) t) t rest
 back_item site.Element d tag t rest = nothing (advance_by Item (at Item site.Element d tag) t) t rest
 back_item (site.Ring many kind) d tag t rest = nothing (advance_by Item (at Item (site.Ring many kind) d tag) t) t rest
-back_item s d tag other rest = tt
 
 back_first : (s : Site) (d : ℕ) (tag : Tag) (t : Token) (rest : List Move) →
     Back (advance_by First (at First s d tag) t) (PositionOf s tag d) t rest
@@ -304,23 +319,29 @@ back_body : (kind : TypeWord) (s : Site) (d : ℕ) (tag : Tag) (t : Token) (rest
     Back (at_body (at step s d tag) kind t) (BodyOf kind tag d) t rest
 back_body type.Point s d tag token.Empty rest step = λ h. (empty_point, rest, refl, refl, is_ended d tag rest h)
 back_body type.Point s d tag token.Open rest step = λ h. open_point d tag rest h
+back_body type.Point s d tag other rest step = tt
 back_body type.LineString s d tag token.Empty rest step = λ h. (line empty_way, rest, refl, refl, is_ended d tag rest h)
 back_body type.LineString s d tag token.Open rest step = λ h. open_line d tag rest h
+back_body type.LineString s d tag other rest step = tt
 back_body type.Polygon s d tag token.Empty rest step = λ h. (polygon empty_surface, rest, refl, refl, is_ended d tag rest h)
 back_body type.Polygon s d tag token.Open rest step = λ h. open_polygon d tag rest h
+back_body type.Polygon s d tag other rest step = tt
 back_body type.MultiPoint s d tag token.Empty rest step = λ h. (points empty_many, rest, refl, refl, is_ended d tag rest h)
 back_body type.MultiPoint s d tag token.Open rest step =
     λ (x, r, e, (xs, r₂, e₂, up)). (points (several x xs), r₂, refl, put _ (e ∙ ap (element_then x) e₂), up)
+back_body type.MultiPoint s d tag other rest step = tt
 back_body type.MultiLineString s d tag token.Empty rest step = λ h. (lines empty_many, rest, refl, refl, is_ended d tag rest h)
 back_body type.MultiLineString s d tag token.Open rest step =
     λ (x, r, e, (xs, r₂, e₂, up)). (lines (several x xs), r₂, refl, put _ (e ∙ ap (way_then EndLine x) e₂), up)
+back_body type.MultiLineString s d tag other rest step = tt
 back_body type.MultiPolygon s d tag token.Empty rest step = λ h. (polygons empty_many, rest, refl, refl, is_ended d tag rest h)
 back_body type.MultiPolygon s d tag token.Open rest step =
     λ (x, r, e, (xs, r₂, e₂, up)). (polygons (several x xs), r₂, refl, put _ (e ∙ ap (surface_then Mark x) e₂), up)
+back_body type.MultiPolygon s d tag other rest step = tt
 back_body type.GeometryCollection s zero tag t rest step = nothing (at_body (at step s zero tag) type.GeometryCollection t) t rest
 back_body type.GeometryCollection s (suc d) tag token.Empty rest step = λ h. inl (rest, refl, is_ended d tag rest h)
 back_body type.GeometryCollection s (suc d) tag token.Open rest step = λ h. inr (open_collection d rest h)
-back_body kind s d tag other rest step = tt
+back_body type.GeometryCollection s (suc d) tag other rest step = tt
 
 back_tagged : (kind : TypeWord) (s : Site) (d : ℕ) (tag : Tag) (t : Token) (rest : List Move) →
     Back (advance_by (Tagged kind) (at (Tagged kind) s d tag) t) (TaggedOf kind tag d) t rest

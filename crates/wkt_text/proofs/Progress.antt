@@ -1,7 +1,6 @@
 -- The reader goes on through the bytes.
 use Rattle.std.proofs.Common.{◌≡◌, ℕ, ◌<◌, true, false, Some, None, Result, Ok, Err, IsOk, List, [], ◌∷◌, ◌++◌, ◌⊎◌, inl, inr, refl, sym, ap, subst, ◌∙◌, drop, arith}
 use Rattle.std.specs.Char.{is_ascii_alphabetic}
-use Rattle.text_laws.proofs.Pairs.{pairs_parted}
 use Rattle.wkt_text.specs.declared.token.Token.{Token}
 use Rattle.wkt_text.specs.declared.token.Token.TheVariants as token
 use Rattle.wkt_text.specs.declared.state.Role.{Role}
@@ -34,7 +33,7 @@ use Rattle.std.proofs.lemmas.Option.{none-some}
 use Rattle.wkt_text.specs.Faults.{Stands, Reads, IsRight, IsOnlyWhite, FirstFault, RunsOut}
 use Rattle.wkt_text.proofs.Counted.{built_counted}
 use Rattle.wkt_text.proofs.Spells.{spelled_run}
-use Rattle.wkt_text.proofs.Courses.{run_goes, goes_same, builds, ok_same}
+use Rattle.wkt_text.proofs.Courses.{run_goes, goes_same, builds, tokens_parted, ok_same}
 use Rattle.wkt_text.proofs.Parses.{at, start, run_spelled, goes_run}
 use Rattle.wkt_text.proofs.FirstFaults.{Taken, taken_more, taken_right, right_taken, faulty_wrong, faulty_has_kind}
 
@@ -180,7 +179,7 @@ taken_same ts c d b e k l =
 -- The first of more tokens.
 pub right_front : (ts more : List Token) (t : Token) → IsRight (ts ++ t ∷ more) → IsRight (ts ++ t ∷ [])
 right_front ts more t r =
-    let p = pairs_parted r.front (ts ++ t ∷ []) more (r.tokens ∙ sym (append_assoc ts (t ∷ []) more)) in
+    let p = tokens_parted r.front (ts ++ t ∷ []) more (r.tokens ∙ sym (append_assoc ts (t ∷ []) more)) in
     record {
       geometry = r.geometry;
       front = p.front;
