@@ -1,12 +1,10 @@
 -- Pairs of figures of points have lines, rows and texts.
-use Rattle.std.proofs.Common.{◌≡◌, ℕ, List, [], ◌∷◌, ◌++◌, refl, subst}
+use Rattle.std.proofs.Common.{ℕ, List, [], ◌∷◌, ◌++◌, refl, sym, subst}
 use Rattle.std.specs.List.{All}
-use Rattle.im_matrix.specs.declared.Loc.{Loc}
-use Rattle.im_matrix.specs.declared.Loc.TheVariants.{Interior, Boundary, Exterior}
 use Rattle.im_matrix.specs.declared.Dim.{Dim}
-use Rattle.im_matrix.specs.declared.Row.{Row}
 use Rattle.im_matrix.specs.declared.Matrix.{Matrix}
-use Rattle.im_matrix.specs.Cells.{dimension_at, cell, matrix_text}
+use Rattle.im_matrix.specs.Cells.{matrix_text}
+use Rattle.im_matrix.proofs.Laws.{matrix_by, dimension_at-matrix_by}
 use Rattle.plane_exact.specs.declared.point.Pt.{Pt}
 use Rattle.point_set.specs.declared.figure.Figure.{Figure}
 use Rattle.point_set.specs.declared.rule.Rule.{Rule}
@@ -17,32 +15,9 @@ use Rattle.geosop_run.specs.Text.{IsLineOf, IsRowOf, IsTextOf}
 use Rattle.geosop_run.proofs.Parts.{some_text}
 use Rattle.geosop_run.proofs.PointMatrix.{points_matrix}
 
--- the row of the matrix of two sets of points
-abbrev row_of : List Pt → List Pt → Loc → Row
-row_of in_a in_b x = record {
-  interior = points_dimension in_a in_b x Interior;
-  boundary = points_dimension in_a in_b x Boundary;
-  exterior = points_dimension in_a in_b x Exterior;
-}
-
 -- the matrix of two sets of points
 abbrev matrix_of : List Pt → List Pt → Matrix
-matrix_of in_a in_b = record {
-  interior = row_of in_a in_b Interior;
-  boundary = row_of in_a in_b Boundary;
-  exterior = row_of in_a in_b Exterior;
-}
-
-in_matrix : (in_a in_b : List Pt) (x y : Loc) → points_dimension in_a in_b x y ≡ dimension_at (matrix_of in_a in_b) (cell x y)
-in_matrix in_a in_b Interior Interior = refl
-in_matrix in_a in_b Interior Boundary = refl
-in_matrix in_a in_b Interior Exterior = refl
-in_matrix in_a in_b Boundary Interior = refl
-in_matrix in_a in_b Boundary Boundary = refl
-in_matrix in_a in_b Boundary Exterior = refl
-in_matrix in_a in_b Exterior Interior = refl
-in_matrix in_a in_b Exterior Boundary = refl
-in_matrix in_a in_b Exterior Exterior = refl
+matrix_of in_a in_b = matrix_by (λ c. points_dimension in_a in_b c.a c.b)
 
 -- a pair has a line
 some_line : (a b : Figure) (rule : Rule) → HasPointsAlone a → HasPointsAlone b → (line : List ℕ) × IsLineOf a b rule line
@@ -52,7 +27,8 @@ some_line a b rule h k =
       record {
         matrix = matrix;
         is_matrix = λ c.
-            subst (λ (d : Dim). IsDimension (IsInCell a b rule c) d) (in_matrix a.points b.points c.a c.b)
+            subst (λ (d : Dim). IsDimension (IsInCell a b rule c) d)
+            (sym (dimension_at-matrix_by (λ d. points_dimension a.points b.points d.a d.b) c))
             (points_matrix a b rule h.lines h.areas k.lines k.areas c);
         spelled = refl;
       },

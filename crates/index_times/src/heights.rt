@@ -69,11 +69,17 @@ pub(crate) fn ring(alloc: Global) -> Result<Path, NoMemory> {
     let mut ring = Path::new(alloc);
     for (start, end) in CORNERS.iter().zip(CORNERS.iter().skip(1)) {
         for piece in 0..PIECES {
-            ring.push(Pt { x: between(start.0, end.0, piece), y: between(start.1, end.1, piece) })?;
+            ring.push(Pt {
+                x: between(start.0, end.0, piece),
+                y: between(start.1, end.1, piece),
+            })?;
         }
     }
     let first = CORNERS[0];
-    ring.push(Pt { x: first.0, y: first.1 })?;
+    ring.push(Pt {
+        x: first.0,
+        y: first.1,
+    })?;
     Ok(ring)
 }
 
@@ -101,7 +107,10 @@ fn spans_of(alloc: Global, edges: &[Seg]) -> Result<SpanList, NoMemory>
 fn heights_of(edge: Seg) -> Span
     ensures heights { result ≡ heights edge }
 {
-    Span { low: edge.a.y.min(edge.b.y), high: edge.a.y.max(edge.b.y) }
+    Span {
+        low: edge.a.y.min(edge.b.y),
+        high: edge.a.y.max(edge.b.y),
+    }
 }
 
 fn are_edges(edges: &[Seg]) -> bool
@@ -138,7 +147,10 @@ fn is_way(ring: &Path) -> bool
 pub(crate) fn locations(alloc: Global, count: u32) -> Result<u64, NoMemory> {
     let edges = edges_of(alloc, &ring(alloc)?)?;
     let spans = spans_of(alloc, edges.as_slice())?;
-    if edges.len() > MOST_POSITIONS || !are_edges(edges.as_slice()) || !are_spans(spans.as_slice()) {
+    if edges.len() > MOST_POSITIONS
+        || !are_edges(edges.as_slice())
+        || !are_spans(spans.as_slice())
+    {
         return Ok(0);
     }
     let rows = YIndex::build(alloc, &spans)?;

@@ -10,10 +10,9 @@ use heights::{locations, locations_by_scan, ring};
 use plane_exact::NoMemory;
 use segments::{segments, windows, windows_by_scan};
 use std::alloc::Global;
-use std::env;
-use std::io;
 use std::process::ExitCode;
 use std::rt::{Env, Runtime};
+use std::{env, io};
 
 /// How often the indexes are asked.
 const OFTEN: u32 = 100_000;

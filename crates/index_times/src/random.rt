@@ -13,7 +13,10 @@ impl Random {
 
     /// A number of 21 binary digits less 2^20, and so a coordinate, or the one just below the least.
     fn next(&mut self) -> i64 {
-        self.0 = self.0.wrapping_mul(6364136223846793005).wrapping_add(1442695040888963407);
+        self.0 = self
+            .0
+            .wrapping_mul(6364136223846793005)
+            .wrapping_add(1442695040888963407);
         ((self.0 >> 43) as i64).wrapping_sub(1_048_576)
     }
 

@@ -44,5 +44,8 @@ pub(crate) fn windows_by_scan(alloc: Global, count: u32) -> Result<u64, NoMemory
 }
 
 fn meeting(segments: &[Seg], window: Window) -> u64 {
-    segments.iter().filter(|segment| Window::of(**segment).meets(&window)).count() as u64
+    segments
+        .iter()
+        .filter(|segment| Window::of(**segment).meets(&window))
+        .count() as u64
 }
