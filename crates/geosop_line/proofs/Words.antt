@@ -5,7 +5,6 @@ use Rattle.point_set.specs.declared.rule.Rule.TheVariants.{Mod2, Endpoint, Multi
 use Rattle.im_matrix.specs.declared.names.Name.TheVariants.{Intersects, Disjoint, Contains, Within, Covers, CoveredBy, Touches, Crosses, Overlaps, Equals, ContainsProperly}
 use Rattle.im_matrix.specs.declared.patterns.Mark.{Mark}
 use Rattle.im_matrix.specs.declared.patterns.Mark.TheVariants.{Present, Absent, Any, Points, Lines, Areas}
-use Rattle.im_matrix.specs.declared.patterns.MarkRow.{MarkRow}
 use Rattle.im_matrix.specs.declared.patterns.Pattern.{Pattern}
 use Rattle.im_matrix.specs.Patterns.{mark_character, pattern_text}
 use Rattle.geosop_line.specs.Operations.{operation_word}
@@ -85,21 +84,25 @@ mark_back_is Areas = refl
 same_mark : (m n : Mark) → mark_character m ≡ mark_character n → m ≡ n
 same_mark m n same = sym (mark_back_is m) ∙ ap mark_back same ∙ mark_back_is n
 
--- two rows of marks with the same three characters are one
-same_row : (r s : MarkRow) → mark_character r.interior ≡ mark_character s.interior → mark_character r.boundary ≡ mark_character s.boundary
-    → mark_character r.exterior ≡ mark_character s.exterior → r ≡ s
-same_row r s i b e =
-    let interior = same_mark r.interior s.interior i in
-    let boundary = same_mark r.boundary s.boundary b in
-    let exterior = same_mark r.exterior s.exterior e in
-    λ k. record { interior = interior k; boundary = boundary k; exterior = exterior k }
-
 -- two patterns of one text are one
 pub same_pattern : (p q : Pattern) → pattern_text p ≡ pattern_text q → p ≡ q
 same_pattern p q same =
-    let at : (i : ℕ) → slice_index_or (pattern_text p) i 0 ≡ slice_index_or (pattern_text q) i 0 =
-    λ i. ap (λ t. slice_index_or t i 0) same in
-    let interior = same_row p.interior q.interior (at 0) (at 1) (at 2) in
-    let boundary = same_row p.boundary q.boundary (at 3) (at 4) (at 5) in
-    let exterior = same_row p.exterior q.exterior (at 6) (at 7) (at 8) in
-    λ k. record { interior = interior k; boundary = boundary k; exterior = exterior k }
+    let mark : (i : ℕ) (m n : Mark) → mark_character m ≡ slice_index_or (pattern_text p) i 0
+        → mark_character n ≡ slice_index_or (pattern_text q) i 0 → m ≡ n =
+    λ i m n here there. same_mark m n (here ∙ ap (λ t. slice_index_or t i 0) same ∙ sym there) in
+    let ii = mark 0 p.marks.interior.interior q.marks.interior.interior refl refl in
+    let ib = mark 1 p.marks.interior.boundary q.marks.interior.boundary refl refl in
+    let ie = mark 2 p.marks.interior.exterior q.marks.interior.exterior refl refl in
+    let bi = mark 3 p.marks.boundary.interior q.marks.boundary.interior refl refl in
+    let bb = mark 4 p.marks.boundary.boundary q.marks.boundary.boundary refl refl in
+    let be = mark 5 p.marks.boundary.exterior q.marks.boundary.exterior refl refl in
+    let ei = mark 6 p.marks.exterior.interior q.marks.exterior.interior refl refl in
+    let eb = mark 7 p.marks.exterior.boundary q.marks.exterior.boundary refl refl in
+    let ee = mark 8 p.marks.exterior.exterior q.marks.exterior.exterior refl refl in
+    λ k. record {
+      marks = record {
+        interior = record { interior = ii k; boundary = ib k; exterior = ie k };
+        boundary = record { interior = bi k; boundary = bb k; exterior = be k };
+        exterior = record { interior = ei k; boundary = eb k; exterior = ee k };
+      };
+    }
