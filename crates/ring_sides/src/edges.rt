@@ -1,39 +1,41 @@
-ghost use Rattle.std.specs.Prelude.{◌≡◌, ◌∷◌, ◌++◌, ◌<◌, length, map, IfOk, OnOk, All};
+ghost use Rattle.std.specs.Prelude.{◌≡◌, ◌∷◌, ◌++◌, ◌<◌, ◌≤◌, length, map, IfOk, OnOk, All};
 ghost use Rattle.point_set.specs.declared.figure.Area.{Area};
 ghost use Rattle.point_set.specs.Edges.{edges_of_lines, edges_of_area_rings, edges_of_areas, edges_of_figure};
 ghost use Rattle.point_set.specs.Location.{rings_of};
 ghost use Rattle.point_set.specs.Rings.{edges_after, edges_of as edges_of_way};
+ghost use Rattle.point_set.specs.Shape.{IsWellShaped};
 ghost use Rattle.point_set.specs.Sides.{other_hand};
 ghost use Rattle.point_set.specs.Validity.{IsAtPlace};
 ghost use Rattle.ring_sides.specs.Rows.{owned_edges, row_of, HasItsHand};
 
 use crate::side::{interior_side, is_same};
 use plane_exact::{NoMemory, Path, Pt, Seg};
-use point_set::{Edge, EdgeRows, Hand, Owner, Valid};
+use point_set::{Edge, EdgeRows, Figure, Hand, Owner, Valid};
 use std::alloc::Global;
 
 /// The edges of a figure in order, first of its lines and then of its areas, each with the line or the ring to which it
-/// belongs, and with the hand on which the inside of its area lies.
+/// belongs, and with the hand on which the inside of its area lies. There are no more edges than positions in a figure.
 ///
 /// # Errors
 /// `NoMemory`.
 pub fn edges_of(alloc: Global, v: &Valid) -> Result<EdgeRows, NoMemory>
     ensures edges { IfOk result (λ rows. owned_edges rows ≡ edges_of_figure v.now) }
     ensures hands { IfOk result (λ rows. All (HasItsHand v.now) rows) }
+    ensures few { IfOk result (λ rows. length rows ≤ 1048576) }
 {
     let mut rows = EdgeRows::new(alloc);
-    add_lines(&mut rows, v)?;
+    add_lines(&mut rows, v.figure())?;
     add_areas(&mut rows, v)?;
     Ok(rows)
 }
 
 /// Adds the edges of a figure's lines.
-fn add_lines(rows: &mut EdgeRows, v: &Valid) -> Result<(), NoMemory>
-    requires hands { All (HasItsHand v.now) rows.old }
-    ensures edges { OnOk result (owned_edges rows.new ≡ owned_edges rows.old ++ edges_of_lines 0 v.now.lines) }
-    ensures hands { OnOk result (All (HasItsHand v.now) rows.new) }
+fn add_lines(rows: &mut EdgeRows, figure: &Figure) -> Result<(), NoMemory>
+    requires shaped { IsWellShaped figure.now }
+    requires hands { All (HasItsHand figure.now) rows.old }
+    ensures edges { OnOk result (owned_edges rows.new ≡ owned_edges rows.old ++ edges_of_lines 0 figure.now.lines) }
+    ensures hands { OnOk result (All (HasItsHand figure.now) rows.new) }
 {
-    let figure = v.figure();
     for (place, line) in figure.lines.as_slice().iter().enumerate() {
         add_edges(rows, line, Owner::Line(place as u32), Hand::Line)?;
     }

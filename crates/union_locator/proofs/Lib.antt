@@ -1,6 +1,8 @@
+mod AreaSections
 mod AtPoints
 mod MeetingPlaces
 mod NearEdges
 mod OnLines
 mod Sectors
 mod SingleAreas
+mod WalkRound

@@ -1,12 +1,13 @@
 ghost use Rattle.std.specs.Prelude.{◌≡◌, ◌<◌, length, IfOk};
 ghost use Rattle.plane_exact.specs.NodePoints.{point_at};
 ghost use Rattle.point_set.specs.declared.figure.Figure.{Figure};
+ghost use Rattle.point_set.specs.Shape.{IsWellShaped};
 ghost use Rattle.union_locator.specs.Areas.{IsInAreaAt, IsInAreas};
 
 use area_locator::locate_plain;
 use im_matrix::Loc;
 use plane_exact::{NoMemory, Node};
-use point_set::Valid;
+use point_set::{Figure, Valid};
 
 /// A way to locate nodes in the areas of a valid figure, one by one.
 pub trait AreaLocs {
@@ -24,6 +25,7 @@ pub trait AreaLocs {
 }
 
 /// The plain way: one pass over the positions of an area, without memory.
+#[derive(Clone, Copy)]
 pub(crate) struct PlainAreas<'a> {
     pub(crate) valid: &'a Valid,
 }
@@ -40,16 +42,17 @@ impl AreaLocs for PlainAreas<'_> {
 /// What the single areas of a figure say of a node: Interior at the first that has it inside, else Boundary where one of
 /// them has it on its boundary, else Exterior.
 pub(crate) fn locate_in_areas<L: AreaLocs>(
-    v: &Valid,
+    figure: &Figure,
     areas: &mut L,
     n: &Node,
 ) -> Result<Loc, NoMemory>
-    requires figure { L.figure areas.old ≡ v.now }
-    ensures location { IfOk result (IsInAreas v.now.areas (point_at n.now)) }
+    requires shaped { IsWellShaped figure.now }
+    requires figure { L.figure areas.old ≡ figure.now }
+    ensures location { IfOk result (IsInAreas figure.now.areas (point_at n.now)) }
     ensures figure { L.figure areas.new ≡ L.figure areas.old }
 {
     let mut loc = Loc::Exterior;
-    for place in 0..v.figure().areas.len() {
+    for place in 0..figure.areas.len() {
         match areas.loc(place as u32, n)? {
             Loc::Interior => return Ok(Loc::Interior),
             Loc::Boundary => loc = Loc::Boundary,

@@ -3,8 +3,12 @@
 #![tactic(auto)]
 
 mod areas;
+mod locate;
 mod nearby;
 mod places;
+mod plain;
 mod points;
 
 pub use areas::AreaLocs;
+pub use locate::locate_with;
+pub use plain::Plain;

@@ -11,15 +11,15 @@ use Rattle.union_locator.proofs.areas.locate_in_areas.Goals.{in-Boundary, in-Ext
 
 pub overflow_cast-place : goal.overflow_cast-place
 overflow_cast-place g c =
-    let count = c.len-place-end.ensures.length ∙ ap (λ (f : Figure). length f.areas) c.figure.ensures.same in
-    omega (arith, count, few_areas c.args.v.now c.figure.ensures.shaped, c.loop-place-test.true)
+    let count = c.len-place-end.ensures.length in
+    omega (arith, count, few_areas c.args.figure.now c.requires.shaped, c.loop-place-test.true)
 
 pub returns-in-Interior-clause-location : goal.returns-in-Interior-clause-location
 returns-in-Interior-clause-location g c =
-    let f = c.args.v.now in
+    let f = c.args.figure.now in
     let p = point_at c.args.n.now in
     let k = c.loop-place.place in
-    let count = c.len-place-end.ensures.length ∙ ap (λ (f : Figure). length f.areas) c.figure.ensures.same in
+    let count = c.len-place-end.ensures.length in
     let below : k < length f.areas = omega (arith, count, c.loop-place-test.true) in
     let here = c.in_ok-loc.field-0 in
     let same = c.in_ok-loc.ensures.figure ∙ c.loop-place.invariant.figure in
@@ -28,10 +28,10 @@ returns-in-Interior-clause-location g c =
 
 pub loop-place-preserved : goal.loop-place-preserved
 loop-place-preserved g c =
-    let f = c.args.v.now in
+    let f = c.args.figure.now in
     let p = point_at c.args.n.now in
     let k = c.loop-place.place in
-    let count = c.len-place-end.ensures.length ∙ ap (λ (f : Figure). length f.areas) c.figure.ensures.same in
+    let count = c.len-place-end.ensures.length in
     let below : k < length f.areas = omega (arith, count, c.loop-place-test.true) in
     let here = c.in_ok-loc.field-0 in
     let same = c.in_ok-loc.ensures.figure ∙ c.loop-place.invariant.figure in
@@ -51,6 +51,6 @@ loop-place-preserved g c =
 
 pub returns-clause-location : goal.returns-clause-location
 returns-clause-location g c =
-    let count = c.len-place-end.ensures.length ∙ ap (λ (f : Figure). length f.areas) c.figure.ensures.same in
-    all_passed c.args.v.now.areas (point_at c.args.n.now) c.loop-place.place c.loop-place.loc (omega (arith, count, c.loop-place-test.false))
+    let count = c.len-place-end.ensures.length in
+    all_passed c.args.figure.now.areas (point_at c.args.n.now) c.loop-place.place c.loop-place.loc (omega (arith, count, c.loop-place-test.false))
     c.loop-place.invariant.passed

@@ -7,7 +7,7 @@ use Rattle.union_locator.proofs.areas.locate_in_areas.Given as goal
 
 abbrev pub invariant-loop-place : goal.invariant-loop-place
 invariant-loop-place g l = record {
-  figure : g.L.AreaLocs.figure l.areas ≡ l.v;
+  figure : g.L.AreaLocs.figure l.areas ≡ l.figure;
   outside : ¬ (l.loc ≡ Interior);
-  passed : IsInAreas (take l.place l.v.areas) (point_at l.n) l.loc;
+  passed : IsInAreas (take l.place l.figure.areas) (point_at l.n) l.loc;
 }

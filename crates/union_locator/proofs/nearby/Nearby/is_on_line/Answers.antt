@@ -8,7 +8,7 @@ pub returns-then-is_on_line_at : goal.returns-then-is_on_line_at
 returns-then-is_on_line_at c =
     let s = c.args.self.now in
     let h = c.is_on_line_at.ensures.line.0 c.if-is_on_line_at.true in
-    record { line = sym (on_line s.valid.now (point_at s.node.now) s.rows.now s.places.now c.requires.near _ h.0 h.1) }
+    record { line = sym (on_line s.figure.now (point_at s.node.now) s.rows.now s.places.now c.requires.near _ h.0 h.1) }
 
 pub loop-place-preserved : goal.loop-place-preserved
 loop-place-preserved c =
@@ -25,6 +25,6 @@ returns c =
     let s = c.args.self.now in
     record {
       line = sym
-          (off_lines s.valid.now (point_at s.node.now) s.rows.now s.places.now c.requires.near c.loop-place.place-index
+          (off_lines s.figure.now (point_at s.node.now) s.rows.now s.places.now c.requires.near c.loop-place.place-index
           (let same = ap length c.as_slice-place-items.ensures.items in omega (arith, same, c.loop-place-test.false)) c.loop-place.invariant);
     }

@@ -1,0 +1,115 @@
+-- Round a point that is on the boundary of areas and inside none: it is interior to their union exactly where every sector is inside one.
+use Rattle.std.proofs.Common.{◌≡◌, ◌⊎◌, inl, inr, ℕ, ◌<◌, ◌≤◌, Bool, true, false, List, length, ap, refl, sym, ◌∙◌, subst, arith}
+use Rattle.std.specs.Prelude.{IsTrue, ◌↔◌}
+use Rattle.std.specs.List.{All, Any}
+use Rattle.std.proofs.lemmas.List.Elements.{All-nil, All-weaker}
+use Rattle.std.proofs.lemmas.List.Folds.{list_any_none, list_any-from_Any}
+use Rattle.std.proofs.lemmas.Option.{slice_get_read}
+use Rattle.im_matrix.specs.declared.Loc.{Loc}
+use Rattle.im_matrix.specs.declared.Loc.TheVariants.{Interior, Boundary, Exterior}
+use Rattle.im_matrix.specs.declared.Which.TheVariants.{A}
+use Rattle.plane_laws.specs.Plane.{Point}
+use Rattle.plane_exact.specs.Places.{IsInLimit}
+use Rattle.plane_exact.specs.declared.dir.Dir.{Dir}
+use Rattle.point_set.specs.declared.figure.Area.{Area}
+use Rattle.point_set.specs.declared.figure.Figure.{Figure}
+use Rattle.point_set.specs.Cover.{IsAdjacent}
+use Rattle.point_set.specs.Location.{location, is_not_exterior, is_covered, IsAreaInterior}
+use Rattle.point_set.specs.Sectors.{sectors_of}
+use Rattle.point_set.specs.Shape.{IsWellShaped, IsLineShaped}
+use Rattle.point_set.specs.Validity.{IsAtPlace, IsValid, Clause, too_few_points, ring_cross, rings_share_edge, hole_outside, holes_overlap, disconnected, elements_share_edge, elements_overlap, Fails, SomeArea, SomeEarlier}
+use Rattle.figure_laws.proofs.Lists.Places.{all_at}
+use Rattle.fan_order.specs.declared.section.Section.{Section}
+use Rattle.fan_order.specs.Rays.{AreRaysOf}
+use Rattle.fan_order.specs.Sections.{IsSectorInside, AreSectionsAt, AreHandsAlike, AreSided, IsFanOf}
+use Rattle.fan_laws.proofs.Fans.Hands.{hands_alike, sided}
+use Rattle.fan_laws.proofs.Labels.Boundary.{boundary_by_fan}
+use Rattle.germ_laws.proofs.Cover.Inside.{IsNoAreaInteriorAt, interior_of_one}
+use Rattle.union_locator.specs.Areas.{IsInAreas, areas_alone}
+
+-- ---- the areas alone
+-- their shape
+alone_shaped : (f : Figure) → IsWellShaped f → IsWellShaped (areas_alone f)
+alone_shaped f shaped = record {
+  points = All-nil IsInLimit;
+  lines = All-nil IsLineShaped;
+  areas = shaped.areas;
+  few = let few = shaped.few in omega (arith, few);
+}
+
+-- they fail no clause
+alone_valid : (f : Figure) → IsValid f → IsValid (areas_alone f)
+alone_valid f valid place clause fails = valid place clause (go clause fails)
+  where
+    earlier : {IsSo : Area → Area → Type 0} → SomeEarlier (areas_alone f) place IsSo → SomeEarlier f place IsSo
+    earlier h = record {
+      area = h.area;
+      area_is = h.area_is;
+      before = h.before;
+      earlier = h.earlier;
+      other = h.other;
+      other_is = h.other_is;
+      same_group = h.same_group;
+      is_so = h.is_so;
+    }
+
+    go : (clause : Clause) → Fails (areas_alone f) place clause → Fails f place clause
+    go too_few_points h = record { area = h.area; area_is = h.area_is; is_so = h.is_so }
+    go ring_cross h = record { area = h.area; area_is = h.area_is; is_so = h.is_so }
+    go rings_share_edge h = record { area = h.area; area_is = h.area_is; is_so = h.is_so }
+    go hole_outside h = record { area = h.area; area_is = h.area_is; is_so = h.is_so }
+    go holes_overlap h = record { area = h.area; area_is = h.area_is; is_so = h.is_so }
+    go disconnected h = record { area = h.area; area_is = h.area_is; is_so = h.is_so }
+    go elements_share_edge h = earlier h
+    go elements_overlap h = earlier h
+
+-- what is interior to them is interior to the figure's areas, and back
+interior_alone : (f : Figure) (p : Point) → IsAreaInterior f p → IsAreaInterior (areas_alone f) p
+interior_alone f p h = record { a = h.a; b = h.b; c = h.c; strictly = h.strictly; covered = h.covered }
+
+interior_whole : (f : Figure) (p : Point) → IsAreaInterior (areas_alone f) p → IsAreaInterior f p
+interior_whole f p h = record { a = h.a; b = h.b; c = h.c; strictly = h.strictly; covered = h.covered }
+
+-- ---- what the single areas say
+module _ (f : Figure) (p : Point) where
+  -- on the boundary of an area, and so covered
+  boundary_covers : IsInAreas f.areas p Boundary → is_covered f p ≡ true
+  boundary_covers h =
+      let a = h.1 in
+      list_any-from_Any (λ area. is_not_exterior (location area p)) f.areas (a.0, a.1, a.2, a.3, ap is_not_exterior a.4)
+
+  -- and inside none
+  none_inside : IsInAreas f.areas p Boundary → IsNoAreaInteriorAt f p
+  none_inside h place area is = all_at (λ area. ¬ (location area p ≡ Interior)) f.areas place area h.0 is
+
+  -- inside one area is interior, and outside of all is uncovered
+  pub single_areas : IsWellShaped f → (loc : Loc) → ¬ (loc ≡ Boundary) → IsInAreas f.areas p loc → IsAdjacent f p loc
+  single_areas shaped Interior n h =
+      interior_of_one f shaped h.0 h.1 (slice_get_read f.areas (length f.areas) h.0 h.1 refl h.2 (sym h.3)) p h.4
+  single_areas shaped Boundary n h = absurd (n refl)
+  single_areas shaped Exterior n h =
+      list_any_none (λ area. is_not_exterior (location area p)) f.areas
+      (All-weaker (λ area. location area p ≡ Exterior) (λ area. is_not_exterior (location area p) ≡ false) (λ area e. ap is_not_exterior e) f.areas h)
+
+  -- ---- the walk
+  module _ (shaped : IsWellShaped f) (valid : IsValid f) (boundary : IsInAreas f.areas p Boundary) (sections : List Section) (rays : List Dir)
+      (at : AreSectionsAt A (areas_alone f) p sections) (of : AreRaysOf sections rays) (inside : Bool)
+      (walk : AreHandsAlike A sections → AreSided A sections
+      → IsTrue inside ↔ ((i : ℕ) → i < sectors_of rays → IsSectorInside A sections rays i)) where
+    fan : IsFanOf A (areas_alone f) p sections rays
+    fan = record { shaped = alone_shaped f shaped; valid = alone_valid f valid; are_sections = at; are_rays = of }
+
+    decides : IsTrue inside ↔ ((i : ℕ) → i < sectors_of rays → IsSectorInside A sections rays i)
+    decides = walk (hands_alike A (areas_alone f) p sections rays fan) (sided A (areas_alone f) p sections rays fan)
+
+    by_fan : IsAreaInterior (areas_alone f) p ↔ ((i : ℕ) → i < sectors_of rays → IsSectorInside A sections rays i)
+    by_fan = boundary_by_fan A (areas_alone f) p sections rays fan (none_inside boundary)
+
+    -- inside all round is interior
+    pub walked_inside : inside ≡ true → IsAdjacent f p Interior
+    walked_inside e = interior_whole f p (by_fan.1 (decides.0 e))
+
+    -- else the point is on the boundary
+    pub walked_boundary : inside ≡ false → IsAdjacent f p Boundary
+    walked_boundary e =
+        (boundary_covers boundary, λ h. (let t = sym (decides.1 (by_fan.0 (interior_alone f p h))) ∙ e in cc))
