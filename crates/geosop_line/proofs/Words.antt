@@ -88,7 +88,7 @@ same_mark m n same = sym (mark_back_is m) ∙ ap mark_back same ∙ mark_back_is
 pub same_pattern : (p q : Pattern) → pattern_text p ≡ pattern_text q → p ≡ q
 same_pattern p q same =
     let mark : (i : ℕ) (m n : Mark) → mark_character m ≡ slice_index_or (pattern_text p) i 0
-        → mark_character n ≡ slice_index_or (pattern_text q) i 0 → m ≡ n =
+    → mark_character n ≡ slice_index_or (pattern_text q) i 0 → m ≡ n =
     λ i m n here there. same_mark m n (here ∙ ap (λ t. slice_index_or t i 0) same ∙ sym there) in
     let ii = mark 0 p.marks.interior.interior q.marks.interior.interior refl refl in
     let ib = mark 1 p.marks.interior.boundary q.marks.interior.boundary refl refl in
