@@ -44,8 +44,12 @@ ascending_push xs k ascending below i h = go (cases_lt (i + 1) (length xs))
     go (inl l) =
         omega (arith, get_or_append_left xs (k ∷ []) 0 i (omega arith), get_or_append_left xs (k ∷ []) 0 (i + 1) l, ascending i l)
     go (inr l) =
-        omega (arith, get_or_append_left xs (k ∷ []) 0 i (omega (arith, size, h)), get_or_push xs k 0 (i + 1) (omega (arith, size, h)),
-        below i 0 (omega (arith, size, h)))
+        omega (
+          arith,
+          get_or_append_left xs (k ∷ []) 0 i (omega (arith, size, h)),
+          get_or_push xs k 0 (i + 1) (omega (arith, size, h)),
+          below i 0 (omega (arith, size, h)),
+        )
 
 -- the row at a place, as an edge with its owner
 pub owned_at : (rows : List Edge) (k : ℕ) (row : Edge) → IsAtPlace rows k row → IsAtPlace (owned_edges rows) k (owned_edge row)

@@ -51,11 +51,10 @@ module _ (areas : List Area) (p : Point) (k : ℕ) (below : k < length areas) (h
       → IsInAreas (take (k + 1) areas) p Boundary
   boundary_here loc n h e =
       let x = some_item areas k below in
-      let not_in : ¬ (location (get_or areas k x.0) p ≡ Interior) = λ i. (let both = sym (at_here x.0 ∙ e) ∙ i in cc) in
-      (
+      let not_in : ¬ (location (get_or areas k x.0) p ≡ Interior) = λ i. (let both = sym (at_here x.0 ∙ e) ∙ i in cc) in (
         All-more (λ area. ¬ (location area p ≡ Interior)) areas k x.0 below (not_inside (take k areas) p loc n h) not_in,
         more (Any (λ area. location area p ≡ Boundary)) areas k x.0 below
-        (Any-push (λ area. location area p ≡ Boundary) (take k areas) (get_or areas k x.0) (at_here x.0 ∙ e)),
+            (Any-push (λ area. location area p ≡ Boundary) (take k areas) (get_or areas k x.0) (at_here x.0 ∙ e)),
       )
 
   -- and one outside of which it is changes nothing
@@ -75,7 +74,7 @@ module _ (areas : List Area) (p : Point) (k : ℕ) (below : k < length areas) (h
       by_loc Boundary h = (
         All-more (λ area. ¬ (location area p ≡ Interior)) areas k x.0 below h.0 not_in,
         more (Any (λ area. location area p ≡ Boundary)) areas k x.0 below
-        (any_left (λ area. location area p ≡ Boundary) (take k areas) (get_or areas k x.0 ∷ []) h.1),
+            (any_left (λ area. location area p ≡ Boundary) (take k areas) (get_or areas k x.0 ∷ []) h.1),
       )
       by_loc Exterior h = All-more (λ area. location area p ≡ Exterior) areas k x.0 below h (at_here x.0 ∙ e)
 

@@ -24,7 +24,7 @@ use Rattle.fan_order.specs.Rays.{AreRaysOf}
 use Rattle.fan_order.specs.Sections.{IsSectorInside, AreSectionsAt, AreHandsAlike, AreSided, IsFanOf}
 use Rattle.fan_laws.proofs.Fans.Hands.{hands_alike, sided}
 use Rattle.fan_laws.proofs.Labels.Boundary.{boundary_by_fan}
-use Rattle.germ_laws.proofs.Cover.Inside.{IsNoAreaInteriorAt, interior_of_one}
+use Rattle.kind_laws.proofs.Cover.Inside.{IsNoAreaInteriorAt, interior_of_one}
 use Rattle.union_locator.specs.Areas.{IsInAreas, areas_alone}
 
 -- ---- the areas alone

@@ -91,14 +91,7 @@ impl Target for Plain<'_> {
         places_in(&self.rows, &Window::round(n), &mut self.near)?;
         let mut areas = PlainAreas { valid: self.valid };
         locate_with(
-            self.alloc,
-            self.valid,
-            &self.rows,
-            &self.near,
-            &self.ends,
-            &mut areas,
-            n,
-            rule,
+            self.alloc, self.valid, &self.rows, &self.near, &self.ends, &mut areas, n, rule,
         )
     }
 

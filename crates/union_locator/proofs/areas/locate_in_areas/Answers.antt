@@ -42,11 +42,12 @@ loop-place-preserved g c =
     record {
       figure = same;
       outside = elim c.match-branch-2.branch [ in-Boundary w ↦ λ e. (let both = sym w.loc-is ∙ e in cc) | in-Exterior w ↦ λ e. outside (sym w.loc-is ∙ e) ];
-      passed = elim c.match-branch-2.branch
-          [ in-Boundary w ↦
-              subst (λ (z : Loc). IsInAreas (take (k + 1) f.areas) p z) (sym w.loc-is) (boundary_here f.areas p k below here own old outside passed w.in-Boundary.is)
-          | in-Exterior w ↦
-              subst (λ (z : Loc). IsInAreas (take (k + 1) f.areas) p z) (sym w.loc-is) (outside_here f.areas p k below here own old passed w.in-Exterior.is) ];
+      passed = elim c.match-branch-2.branch [
+        | in-Boundary w ↦
+            subst (λ (z : Loc). IsInAreas (take (k + 1) f.areas) p z) (sym w.loc-is) (boundary_here f.areas p k below here own old outside passed w.in-Boundary.is)
+        | in-Exterior w ↦
+            subst (λ (z : Loc). IsInAreas (take (k + 1) f.areas) p z) (sym w.loc-is) (outside_here f.areas p k below here own old passed w.in-Exterior.is)
+      ];
     }
 
 pub returns-clause-location : goal.returns-clause-location

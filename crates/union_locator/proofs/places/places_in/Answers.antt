@@ -10,15 +10,16 @@ loop-place-preserved c =
     let rows = c.args.rows.now in
     let k = c.loop-place.place in
     let same = c.as_slice-row-items.ensures.items in
-    elim c.if-meets.branch
-    [ then-meets+in_ok-push t ↦
-        subst (ArePlacesBelow w rows _) (sym t.out-is)
-        (pushed w items rows k _ c.loop-place.out t.push.new.self same c.loop-place-test.true c.of.ensures.least (c.meets.ensures.common.0 t.if-meets.true)
-        c.loop-place.invariant t.in_ok-push.ensures.ok)
-    | else-meets t ↦
-        subst (ArePlacesBelow w rows _) (sym t.out-is)
-        (passed w items rows k _ c.loop-place.out same c.loop-place-test.true c.of.ensures.least
-        (λ h. true≢false (sym (c.meets.ensures.common.1 h) ∙ t.if-meets.false)) c.loop-place.invariant) ]
+    elim c.if-meets.branch [
+      | then-meets+in_ok-push t ↦
+          subst (ArePlacesBelow w rows _) (sym t.out-is)
+          (pushed w items rows k _ c.loop-place.out t.push.new.self same c.loop-place-test.true c.of.ensures.least (c.meets.ensures.common.0 t.if-meets.true)
+          c.loop-place.invariant t.in_ok-push.ensures.ok)
+      | else-meets t ↦
+          subst (ArePlacesBelow w rows _) (sym t.out-is)
+          (passed w items rows k _ c.loop-place.out same c.loop-place-test.true c.of.ensures.least
+          (λ h. true≢false (sym (c.meets.ensures.common.1 h) ∙ t.if-meets.false)) c.loop-place.invariant)
+    ]
 
 pub returns : goal.returns
 returns c = record {

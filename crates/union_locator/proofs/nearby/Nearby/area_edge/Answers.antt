@@ -7,7 +7,7 @@ use Rattle.union_locator.proofs.nearby.Nearby.area_edge.Goals.{else-not-is_of_li
 pub at-edge-requires : goal.at-edge-requires
 at-edge-requires c =
     let s = c.args.self.now in
-    place_below s.figure.now (point_at s.node.now) s.rows.now s.places.now c.requires.near c.args.place c.requires.place
+    record { within = place_below s.figure.now (point_at s.node.now) s.rows.now s.places.now c.requires.near c.args.place c.requires.place }
 
 pub on_segment-requires-clause-a : goal.on_segment-requires-clause-a
 on_segment-requires-clause-a c =
@@ -36,6 +36,7 @@ pub returns-else-not-is_of_line-clause-none : goal.returns-else-not-is_of_line-c
 returns-else-not-is_of_line-clause-none c = λ edge h.
     let s = c.args.self.now in
     let there = area_there s.figure.now (point_at s.node.now) s.rows.now s.places.now c.requires.near c.args.place c.at-edge.result.now c.requires.place c.at-edge.ensures.item edge h in
-    elim c.else-not-is_of_line.branch
-    [ else-not-is_of_line-via-then-not-is_of_line+else-on_segment w ↦ true≢false (sym (w.on_segment.ensures.on.1 there.1) ∙ w.if-on_segment.false)
-    | else-not-is_of_line-via-else-not-is_of_line w ↦ there.0 (c.is_of_line.ensures.line.0 w.if-not-is_of_line.false) ]
+    elim c.else-not-is_of_line.branch [
+      | else-not-is_of_line-via-then-not-is_of_line+else-on_segment w ↦ true≢false (sym (w.on_segment.ensures.on.1 there.1) ∙ w.if-on_segment.false)
+      | else-not-is_of_line-via-else-not-is_of_line w ↦ there.0 (c.is_of_line.ensures.line.0 w.if-not-is_of_line.false)
+    ]

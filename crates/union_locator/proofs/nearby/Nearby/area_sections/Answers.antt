@@ -31,17 +31,18 @@ loop-place-preserved c =
     let rows = s.rows.now in
     let k = c.loop-place.place-index in
     let items = c.as_slice-place-items.ensures.items in
-    elim c.match-area_edge.branch
-    [ in-Some+in_ok-add_sections w ↦
-        subst (λ (xs : List Section). AreSectionsBefore f p rows s.places.now (k + 1) xs) (sym w.sections-is)
-        (sections_more f p rows s.places.now k c.loop-place.sections c.loop-place.invariant c.requires.near w.in-Some.edge
-        (subst (λ (places : List ℕ). IsAreaEdgeAt rows (get_or places k 0) p w.in-Some.edge) items w.in-Some.ensures.edge) w.add_sections.new.out
-        w.in_ok-add_sections.ensures.sections w.in_ok-add_sections.ensures.short)
-    | in_default w ↦
-        subst (λ (xs : List Section). AreSectionsBefore f p rows s.places.now (k + 1) xs) (sym w.sections-is)
-        (nothing_more f p rows s.places.now k c.loop-place.sections c.loop-place.invariant
-        (λ edge h.
-        w.in_default.ensures.none edge (subst (λ (places : List ℕ). IsAreaEdgeAt rows (get_or places k 0) p edge) (sym items) h))) ]
+    elim c.match-area_edge.branch [
+      | in-Some+in_ok-add_sections w ↦
+          subst (λ (xs : List Section). AreSectionsBefore f p rows s.places.now (k + 1) xs) (sym w.sections-is)
+          (sections_more f p rows s.places.now k c.loop-place.sections c.loop-place.invariant c.requires.near w.in-Some.edge
+          (subst (λ (places : List ℕ). IsAreaEdgeAt rows (get_or places k 0) p w.in-Some.edge) items w.in-Some.ensures.edge) w.add_sections.new.out
+          w.in_ok-add_sections.ensures.sections w.in_ok-add_sections.ensures.short)
+      | in_default w ↦
+          subst (λ (xs : List Section). AreSectionsBefore f p rows s.places.now (k + 1) xs) (sym w.sections-is)
+          (nothing_more f p rows s.places.now k c.loop-place.sections c.loop-place.invariant
+          (λ edge h.
+          w.in_default.ensures.none edge (subst (λ (places : List ℕ). IsAreaEdgeAt rows (get_or places k 0) p edge) (sym items) h)))
+    ]
 
 pub returns-clause-sections : goal.returns-clause-sections
 returns-clause-sections c =

@@ -15,9 +15,9 @@ loop-place-preserved c =
     let s = c.args.self.now in
     off_one_more s.rows.now s.places.now (point_at s.node.now) c.loop-place.place-index
     (λ edge h.
-        let same = ap (λ (places : List ℕ). get_or places c.loop-place.place-index 0) (sym c.as_slice-place-items.ensures.items) in
-        let there = subst (λ (place : ℕ). IsLineEdgeAt s.rows.now place (point_at s.node.now) edge) same h in
-        true≢false (sym (c.is_on_line_at.ensures.line.1 (edge, there)) ∙ c.if-is_on_line_at.false))
+    let same = ap (λ (places : List ℕ). get_or places c.loop-place.place-index 0) (sym c.as_slice-place-items.ensures.items) in
+    let there = subst (λ (place : ℕ). IsLineEdgeAt s.rows.now place (point_at s.node.now) edge) same h in
+    true≢false (sym (c.is_on_line_at.ensures.line.1 (edge, there)) ∙ c.if-is_on_line_at.false))
     c.loop-place.invariant
 
 pub returns : goal.returns

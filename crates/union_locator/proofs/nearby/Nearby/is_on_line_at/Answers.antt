@@ -6,7 +6,7 @@ use Rattle.union_locator.proofs.nearby.Nearby.is_on_line_at.Goals as goal
 pub at-edge-requires : goal.at-edge-requires
 at-edge-requires c =
     let s = c.args.self.now in
-    place_below s.figure.now (point_at s.node.now) s.rows.now s.places.now c.requires.near c.args.place c.requires.place
+    record { within = place_below s.figure.now (point_at s.node.now) s.rows.now s.places.now c.requires.near c.args.place c.requires.place }
 
 pub on_segment-requires-clause-a : goal.on_segment-requires-clause-a
 on_segment-requires-clause-a c =
