@@ -1,4 +1,4 @@
--- V5. The kind of a point's location in a figure is decided: area interior by one direction in each sector. No validity is needed.
+-- The kind of a point's location in a figure is decided: area interior by one direction in each sector. No validity is needed.
 use Rattle.std.proofs.Common.{Bool, ◌≡◌, ◌⊎◌, inl, inr, ℕ, zero, suc, ◌+◌, ◌%◌, ◌<◌, pos, true, false, List, [], ◌∷◌, length, ap, sym, ◌∙◌}
 use Rattle.std.proofs.Common.{subst}
 use Rattle.std.proofs.Common.{arith}
@@ -162,7 +162,7 @@ module _ (f : Figure) (shaped : IsWellShaped f) (v : Point) where
           all rightward)
       by_sectors (inr n) = inr n
 
-  -- ---- V5
+  -- ---- the kind
   -- so one of the six kinds holds
   pub kind_exists : (rule : Rule) → (k : DimLoc) × IsKind f rule v k
   kind_exists rule = by_cover (cases_Bool (is_covered f v))

@@ -1,4 +1,4 @@
--- V6. From every point, along every direction, the kind of a point's location in a valid figure settles.
+-- From every point, along every direction, the kind of a point's location in a valid figure settles.
 use Rattle.std.proofs.Common.{◌≡◌, ℕ, ◌+◌, ◌≤◌, Bool, true, false, List, [], ◌∷◌, refl, sym, ◌∙◌, arith}
 use Rattle.std.proofs.lemmas.Bool.{true≢false, or_from, false_from_ne_true}
 use Rattle.im_matrix.specs.declared.Loc.{Loc}
@@ -119,7 +119,7 @@ module _ (f : Figure) (shaped : IsWellShaped f) (valid : IsValid f) (rule : Rule
         },
       )
 
-  -- V6
+  -- the part of the plane settles with the kind
   pub location_settles : (part : Loc) × HoldsAlong (λ p. IsLocation f rule p part) v d
   location_settles =
       let kind = kind_settles in (

@@ -1,4 +1,4 @@
--- V3. Along a segment that meets no edge and no position of two figures, the pair of a point's locations stays. No validity is needed.
+-- Along a segment that meets no edge and no position of two figures, the pair of a point's locations stays. No validity is needed.
 use Rattle.std.proofs.Common.{◌≡◌, ℕ, zero, suc, Bool, true, false, ◌||◌, List, [], ◌∷◌, ◌++◌, ap, refl, sym, ◌∙◌, subst}
 use Rattle.im_matrix.specs.declared.Loc.{Loc}
 use Rattle.plane_laws.proofs.Segments.Mixes.{start_on_segment, end_on_segment}
@@ -127,7 +127,7 @@ no_position a b m free = by_test (is_at_some m (all_positions a ++ all_positions
     by_test true h = absurd (free (position h))
     by_test false h = none_append (is_at m) (all_positions a) (all_positions b) h
 
--- V3
+-- the pair of locations stays
 pub pair_stays : (a b : Figure) → IsWellShaped a → IsWellShaped b → (rule : Rule) → PairStays a b rule
 pair_stays a b a_shaped b_shaped rule p q bare c in_cell = record {
   in_a =

@@ -1,4 +1,4 @@
--- V4. Between two points of one edge with no node from the one to the other, the pair of a point's locations stays.
+-- Between two points of one edge with no node from the one to the other, the pair of a point's locations stays.
 use Rattle.std.proofs.Common.{◌≡◌, Bool, true, false, List, [], ◌∷◌, ap, refl, sym, ◌∙◌, ℕ}
 use Rattle.std.proofs.lemmas.Bool.Decides.{not_from_Decides}
 use Rattle.plane_laws.proofs.Segments.Mixes.{end_on_segment, segment_flip}
@@ -72,7 +72,7 @@ kind_carried f shaped valid rule p q even k is = by_test (is_same_point p q) ref
         (interior_carried f shaped valid q p (λ same. apart (same_sym same)) (even_back f p q even))
         rule k is
 
--- ---- V4
+-- ---- along an edge
 -- the way from p to q is even for each of the two figures
 pub pair_stays_on_edge :
     (a b : Figure) → AreValid a b → (rule : Rule) (place : ℕ) (e : Seg) → IsAtPlace (segs_of_both a b) place e

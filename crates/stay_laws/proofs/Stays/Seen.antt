@@ -1,4 +1,4 @@
--- V12. What is seen from v up to p is the germ at v towards p.
+-- What is seen from v up to p is the germ at v towards p.
 use Rattle.std.proofs.Common.{◌≡◌, ℕ, ◌<◌, ◌*ℤ◌, Bool, true, false, refl, arith}
 use Rattle.std.proofs.lemmas.Bool.Decides.{not_from_Decides}
 use Rattle.plane_laws.proofs.Points.Same.{Decides-is_same_point}
