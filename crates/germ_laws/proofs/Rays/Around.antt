@@ -1,168 +1,22 @@
 -- Every direction points along one of the rays in order, or lies strictly within one of their sectors.
-use Rattle.std.proofs.Common.{◌≡◌, ◌⊎◌, inl, inr, ℕ, zero, suc, ◌+◌, ◌%◌, ◌<◌, ℤ, pos, negsuc, ◌-ℤ◌, ◌*ℤ◌, neg_ℤ, ◌<ℤ◌, ◌≤ℤ◌, ◌≤◌, Bool, true, false, Less, List, [], ◌∷◌, length, ap, refl, sym, ◌∙◌, subst, arith}
+use Rattle.std.proofs.Common.{◌≡◌, inl, inr, ℕ, zero, suc, ◌+◌, ◌%◌, ◌<◌, ℤ, pos, negsuc, ◌-ℤ◌, ◌*ℤ◌, neg_ℤ, ◌<ℤ◌, Bool, true, false, Less, List, [], ◌∷◌, length, ap, refl, sym, ◌∙◌, subst, arith}
 use Rattle.std.specs.List.{AllPairs}
-use Rattle.std.specs.Ordering.{ordering_then, bool_cmp, int_cmp}
 use Rattle.std.proofs.Math.Nat.{mod_self, mod-eq_of_lt}
-use Rattle.std.proofs.lemmas.Bool.{true≢false}
-use Rattle.std.proofs.lemmas.Int.{by_lt_z}
 use Rattle.std.proofs.lemmas.Option.{slice_get_within, get_or_from_slice_get}
 use Rattle.whole_algebra.proofs.Laws.{linear}
-use Rattle.whole_algebra.proofs.Polynomials.{var, num, ◌⊖◌, ◌⊗◌, minus, identity}
-use Rattle.whole_algebra.proofs.Certificates.{positive, at_most, vanishing, same, same_from, less, less_by, impossible_by, scaled, ◌⊞◌, ◌⊠◌}
+use Rattle.whole_algebra.proofs.Polynomials.{var, num, ◌⊖◌, ◌⊗◌, minus}
+use Rattle.whole_algebra.proofs.Certificates.{positive, vanishing, same, less, less_by, impossible_by, scaled, ◌⊞◌, ◌⊠◌}
 use Rattle.whole_algebra.proofs.Signs.{by_sign, <ℤ_apart}
-use Rattle.plane_laws.proofs.Directions.Angles.{no_bend}
-use Rattle.whole_algebra.proofs.Comparisons.{less_int_cmp}
+use Rattle.plane_laws.proofs.Directions.Angles.{no_bend, same_way_from}
+use Rattle.germ_laws.proofs.Rays.InTurn.{IsUp, up_from, down_from, AreInTurn, around_a, around_b, around_c, turn_on, IsAhead, ahead_from, in_turn}
 use Rattle.plane_laws.specs.Directions.{Direction, past_half, bend_of, PointSameWay, IsStrictlyWithin}
-use Rattle.plane_exact.specs.Orders.{direction_of, bend, compare_angles}
+use Rattle.plane_exact.specs.Orders.{direction_of, compare_angles}
 use Rattle.plane_exact.specs.declared.dir.Dir.{Dir}
 use Rattle.point_set.specs.Sectors.{IsInSector, sectors_of}
 use Rattle.point_set.specs.Validity.{IsAtPlace}
 use Rattle.figure_laws.proofs.Lists.Places.{some_same}
-use lib.IntN.{*ℤ_comm, *ℤ-zero}
-
--- ---- halves
--- up, or straight to the right
-abbrev IsUp : ℤ → ℤ → Type 0
-IsUp x y = (pos 0 <ℤ y) ⊎ ((y ≡ pos 0) × (pos 0 <ℤ x))
-
-up_from : (x y : ℤ) → ¬ ((x ≡ pos 0) × (y ≡ pos 0)) → past_half x y ≡ false → IsUp x y
-up_from x (pos (suc n)) m e = inl (omega (arith, linear))
-up_from (pos (suc k)) (pos zero) m e = inr (refl, omega (arith, linear))
-up_from (pos zero) (pos zero) m e = absurd (m (refl, refl))
-up_from (negsuc k) (pos zero) m e = cc
-up_from x (negsuc n) m e = cc
-
-down_from : (x y : ℤ) → past_half x y ≡ true → IsUp (neg_ℤ x) (neg_ℤ y)
-down_from x (pos (suc n)) e = cc
-down_from (pos k) (pos zero) e = cc
-down_from (negsuc k) (pos zero) e = inr (refl, omega (arith, linear))
-down_from x (negsuc n) e = inl (omega (arith, linear))
-
--- a and b point up, b is to the left of a, and c points down and isn't to the left of b: then a is to the left of c
-up_up_down : (ax ay bx by cx cy : ℤ) → IsUp ax ay → IsUp bx by → IsUp (neg_ℤ cx) (neg_ℤ cy) → pos 0 <ℤ ((ax *ℤ by) -ℤ (ay *ℤ bx))
-    → ((bx *ℤ cy) -ℤ (by *ℤ cx)) ≤ℤ pos 0 → pos 0 <ℤ ((cx *ℤ ay) -ℤ (cy *ℤ ax))
-up_up_down ax ay bx by cx cy a (inl b) (inr c) h k =
-    impossible_by (ax ∷ ay ∷ bx ∷ by ∷ cx ∷ cy ∷ [])
-    (at_most (var 2 ⊗ var 5 ⊖ var 3 ⊗ var 4) (num (pos 0)) k ⊞ positive (var 3) b ⊠ positive (minus (var 4)) c.1
-    ⊞ scaled (minus (var 2)) (vanishing (minus (var 5)) c.0)) refl
-up_up_down ax ay bx by cx cy (inl a) (inl b) (inl c) h k =
-    less_by (num (pos 0)) (var 4 ⊗ var 1 ⊖ var 5 ⊗ var 0) (ax ∷ ay ∷ bx ∷ by ∷ cx ∷ cy ∷ [])
-    (λ denied. denied ⊠ positive (var 3) b ⊞ positive (minus (var 5)) c ⊠ positive (var 0 ⊗ var 3 ⊖ var 1 ⊗ var 2) h
-    ⊞ positive (var 1) a ⊠ at_most (var 2 ⊗ var 5 ⊖ var 3 ⊗ var 4) (num (pos 0)) k) refl
-up_up_down ax ay bx by cx cy (inr a) (inl b) (inl c) h k =
-    less_by (num (pos 0)) (var 4 ⊗ var 1 ⊖ var 5 ⊗ var 0) (ax ∷ ay ∷ bx ∷ by ∷ cx ∷ cy ∷ [])
-    (λ denied. denied ⊞ positive (var 0) a.1 ⊠ positive (minus (var 5)) c ⊞ scaled (var 4) (vanishing (var 1) a.0)) refl
-up_up_down ax ay bx by cx cy (inl a) (inr b) c h k =
-    impossible_by (ax ∷ ay ∷ bx ∷ by ∷ cx ∷ cy ∷ [])
-    (positive (var 0 ⊗ var 3 ⊖ var 1 ⊗ var 2) h ⊞ positive (var 1) a ⊠ positive (var 2) b.1
-    ⊞ scaled (minus (var 0)) (vanishing (var 3) b.0)) refl
-up_up_down ax ay bx by cx cy (inr a) (inr b) c h k =
-    impossible_by (ax ∷ ay ∷ bx ∷ by ∷ cx ∷ cy ∷ [])
-    (positive (var 0 ⊗ var 3 ⊖ var 1 ⊗ var 2) h ⊞ scaled (minus (var 0)) (vanishing (var 3) b.0) ⊞ scaled (var 2) (vanishing (var 1) a.0))
-    refl
-
--- a points up, and b and c down, b isn't to the left of a, and c is to the left of b: then a is to the left of c
-up_down_down : (ax ay bx by cx cy : ℤ) → IsUp ax ay → IsUp (neg_ℤ bx) (neg_ℤ by) → IsUp (neg_ℤ cx) (neg_ℤ cy)
-    → ((ax *ℤ by) -ℤ (ay *ℤ bx)) ≤ℤ pos 0 → pos 0 <ℤ ((bx *ℤ cy) -ℤ (by *ℤ cx)) → pos 0 <ℤ ((cx *ℤ ay) -ℤ (cy *ℤ ax))
-up_down_down ax ay bx by cx cy (inr a) b (inl c) h k =
-    less_by (num (pos 0)) (var 4 ⊗ var 1 ⊖ var 5 ⊗ var 0) (ax ∷ ay ∷ bx ∷ by ∷ cx ∷ cy ∷ [])
-    (λ denied. denied ⊞ positive (var 0) a.1 ⊠ positive (minus (var 5)) c ⊞ scaled (var 4) (vanishing (var 1) a.0)) refl
-up_down_down ax ay bx by cx cy (inl a) (inl b) (inl c) h k =
-    less_by (num (pos 0)) (var 4 ⊗ var 1 ⊖ var 5 ⊗ var 0) (ax ∷ ay ∷ bx ∷ by ∷ cx ∷ cy ∷ [])
-    (λ denied. denied ⊠ positive (minus (var 3)) b ⊞ positive (var 1) a ⊠ positive (var 2 ⊗ var 5 ⊖ var 3 ⊗ var 4) k
-    ⊞ positive (minus (var 5)) c ⊠ at_most (var 0 ⊗ var 3 ⊖ var 1 ⊗ var 2) (num (pos 0)) h) refl
-up_down_down ax ay bx by cx cy (inl a) (inr b) (inl c) h k =
-    impossible_by (ax ∷ ay ∷ bx ∷ by ∷ cx ∷ cy ∷ [])
-    (at_most (var 0 ⊗ var 3 ⊖ var 1 ⊗ var 2) (num (pos 0)) h ⊞ positive (var 1) a ⊠ positive (minus (var 2)) b.1
-    ⊞ scaled (minus (var 0)) (vanishing (minus (var 3)) b.0)) refl
-up_down_down ax ay bx by cx cy a (inl b) (inr c) h k =
-    impossible_by (ax ∷ ay ∷ bx ∷ by ∷ cx ∷ cy ∷ [])
-    (positive (var 2 ⊗ var 5 ⊖ var 3 ⊗ var 4) k ⊞ positive (minus (var 3)) b ⊠ positive (minus (var 4)) c.1
-    ⊞ scaled (var 2) (vanishing (minus (var 5)) c.0)) refl
-up_down_down ax ay bx by cx cy a (inr b) (inr c) h k =
-    impossible_by (ax ∷ ay ∷ bx ∷ by ∷ cx ∷ cy ∷ [])
-    (positive (var 2 ⊗ var 5 ⊖ var 3 ⊗ var 4) k ⊞ scaled (var 2) (vanishing (minus (var 5)) c.0)
-    ⊞ scaled (minus (var 4)) (vanishing (minus (var 3)) b.0)) refl
-
--- ---- three directions in their order around
--- counter-clockwise b comes after a, c after b and a after c, in one turn: at least two of them are to the left of the one before
-data AreInTurn (a b c : Direction) : Type 0 where
-  around_a : pos 0 <ℤ bend_of c a → pos 0 <ℤ bend_of a b → AreInTurn a b c
-  around_b : pos 0 <ℤ bend_of a b → pos 0 <ℤ bend_of b c → AreInTurn a b c
-  around_c : pos 0 <ℤ bend_of b c → pos 0 <ℤ bend_of c a → AreInTurn a b c
-
-turn_on : {a b c : Direction} → AreInTurn a b c → AreInTurn b c a
-turn_on (around_a h k) = around_c h k
-turn_on (around_b h k) = around_a h k
-turn_on (around_c h k) = around_b h k
-
-aligned_up : (dx dy ex ey : ℤ) → (pos 0 <ℤ dy) ⊎ ((dy ≡ pos 0) × (pos 0 <ℤ dx)) → (pos 0 <ℤ ey) ⊎ ((ey ≡ pos 0) × (pos 0 <ℤ ex))
-    → dx *ℤ ey -ℤ dy *ℤ ex ≡ pos 0 → (m : ℤ) × (n : ℤ) × (pos 0 <ℤ m) × (pos 0 <ℤ n) × (m *ℤ dx ≡ n *ℤ ex) × (m *ℤ dy ≡ n *ℤ ey)
-aligned_up dx dy ex ey (inl h) (inl k) e = (ey, dy, k, h, omega (arith, linear, e, *ℤ_comm ey dx), *ℤ_comm ey dy)
-aligned_up dx dy ex ey (inl h) (inr k) e =
-    impossible_by (dx ∷ dy ∷ ex ∷ ey ∷ [])
-    (positive (var 1) h ⊠ positive (var 2) k.1 ⊞ vanishing (var 0 ⊗ var 3 ⊖ var 1 ⊗ var 2) e
-    ⊞ scaled (minus (var 0)) (vanishing (var 3) k.0)) refl
-aligned_up dx dy ex ey (inr h) (inl k) e =
-    impossible_by (dx ∷ dy ∷ ex ∷ ey ∷ [])
-    (positive (var 3) k ⊠ positive (var 0) h.1 ⊞ scaled (num (negsuc 0)) (vanishing (var 0 ⊗ var 3 ⊖ var 1 ⊗ var 2) e)
-    ⊞ scaled (minus (var 2)) (vanishing (var 1) h.0)) refl
-aligned_up dx dy ex ey (inr h) (inr k) e =
-    (ex, dx, k.1, h.1, *ℤ_comm ex dx, (λ i. ex *ℤ h.0 i) ∙ *ℤ-zero ex ∙ sym (*ℤ-zero dx) ∙ (λ i. dx *ℤ sym k.0 i))
-
-opposite : (m n x y : ℤ) → m *ℤ neg_ℤ x ≡ n *ℤ neg_ℤ y → m *ℤ x ≡ n *ℤ y
-opposite m n x y e = same_from (var 0 ⊗ var 2) (var 1 ⊗ var 3) (m ∷ n ∷ x ∷ y ∷ [])
-    (scaled (num (negsuc 0)) (same (var 0 ⊗ minus (var 2)) (var 1 ⊗ minus (var 3)) e)) refl
 
 -- ---- the order of directions
-abbrev pub IsAhead : Direction → Direction → Type 0
-IsAhead d e =
-    ((past_half d.x d.y ≡ false) × (past_half e.x e.y ≡ true))
-    ⊎ ((past_half d.x d.y ≡ past_half e.x e.y) × (pos 0 <ℤ bend_of d e))
-
-ahead_from : (d e : Dir) → compare_angles d e ≡ Less → IsAhead (direction_of d) (direction_of e)
-unfolding bend_of
-ahead_from d e h = go (past_half d.dx d.dy) (past_half e.dx e.dy) h
-  where
-    go : (p q : Bool) → ordering_then (bool_cmp p q) (int_cmp (pos 0) (bend d e)) ≡ Less → ((p ≡ false) × (q ≡ true))
-        ⊎ ((p ≡ q) × (pos 0 <ℤ bend d e))
-    go false true k = inl (refl, refl)
-    go false false k = inr (refl, less_int_cmp (pos 0) (bend d e) k)
-    go true true k = inr (refl, less_int_cmp (pos 0) (bend d e) k)
-    go true false k = cc
-
-in_turn : (a b c : Direction) → IsAhead a b → IsAhead b c → AreInTurn a b c
-unfolding bend_of
-in_turn a b c = go
-  where
-    up_first : (d : Direction) → past_half d.x d.y ≡ false → IsUp d.x d.y
-    up_first d e = up_from d.x d.y d.moves e
-
-    go : IsAhead a b → IsAhead b c → AreInTurn a b c
-    go (inl p) (inl q) = absurd (true≢false (sym p.1 ∙ q.0))
-    go (inl p) (inr q) =
-        by_lt_z (pos 0) (bend_of a b) (λ l. around_b l q.1)
-        (λ n. around_c q.1 (up_down_down a.x a.y b.x b.y c.x c.y (up_first a p.0) (down_from b.x b.y p.1)
-        (down_from c.x c.y (sym q.0 ∙ p.1)) n q.1))
-    go (inr p) (inl q) =
-        by_lt_z (pos 0) (bend_of b c) (λ l. around_b p.1 l)
-        (λ n. around_a (up_up_down a.x a.y b.x b.y c.x c.y (up_first a (p.0 ∙ q.0)) (up_first b q.0) (down_from c.x c.y q.1) p.1 n) p.1)
-    go (inr p) (inr q) = around_b p.1 q.1
-
-level_way : (d e : Direction) → past_half d.x d.y ≡ past_half e.x e.y → bend_of d e ≡ pos 0 → PointSameWay d e
-unfolding bend_of
-level_way d e h z = go (past_half d.x d.y) refl
-  where
-    go : (t : Bool) → past_half d.x d.y ≡ t → PointSameWay d e
-    go false p = let r = aligned_up d.x d.y e.x e.y (up_from d.x d.y d.moves p) (up_from e.x e.y e.moves (sym h ∙ p)) z in
-        record { m = r.0; n = r.1; some = r.2; other = r.3; across = r.4; above = r.5 }
-    go true p =
-        let back : (neg_ℤ d.x *ℤ neg_ℤ e.y) -ℤ (neg_ℤ d.y *ℤ neg_ℤ e.x) ≡ pos 0 =
-        identity (minus (var 0) ⊗ minus (var 3) ⊖ minus (var 1) ⊗ minus (var 2)) (var 0 ⊗ var 3 ⊖ var 1 ⊗ var 2)
-        (d.x ∷ d.y ∷ e.x ∷ e.y ∷ []) refl ∙ z in
-        let r = aligned_up (neg_ℤ d.x) (neg_ℤ d.y) (neg_ℤ e.x) (neg_ℤ e.y) (down_from d.x d.y p) (down_from e.x e.y (sym h ∙ p)) back in
-        record { m = r.0; n = r.1; some = r.2; other = r.3; across = opposite r.0 r.1 d.x e.x r.4; above = opposite r.0 r.1 d.y e.y r.5 }
-
 less_bend : (d e : Direction) → bend_of d e <ℤ pos 0 → pos 0 <ℤ bend_of e d
 unfolding bend_of
 less_bend d e n = less_by (num (pos 0)) (var 2 ⊗ var 1 ⊖ var 3 ⊗ var 0) (d.x ∷ d.y ∷ e.x ∷ e.y ∷ [])
@@ -202,7 +56,7 @@ order_of : (d e : Direction) → Order d e
 order_of d e = go (past_half d.x d.y) (past_half e.x e.y) refl refl
   where
     level : past_half d.x d.y ≡ past_half e.x e.y → Order d e
-    level h = by_sign (bend_of d e) (λ n. is_after (inr (sym h, turned_bend n))) (λ z. is_same (level_way d e h z))
+    level h = by_sign (bend_of d e) (λ n. is_after (inr (sym h, turned_bend n))) (λ z. is_same (same_way_from d e h z))
         (λ p. is_before (inr (h, p)))
       where
         turned_bend : bend_of d e <ℤ pos 0 → pos 0 <ℤ bend_of e d

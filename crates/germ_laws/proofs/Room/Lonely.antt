@@ -10,7 +10,6 @@ use Rattle.plane_exact.specs.Places.{point_of}
 use Rattle.plane_laws.specs.Directions.{Direction}
 use Rattle.plane_exact.specs.declared.point.Pt.{Pt}
 use Rattle.plane_exact.specs.declared.point.Seg.{Seg}
-use Rattle.point_set.specs.declared.edge.Hand.TheVariants as hand
 use Rattle.point_set.specs.declared.figure.Figure.{Figure}
 use Rattle.plane_laws.specs.Along.{HoldsAlong}
 use Rattle.point_set.specs.Lines.{ends_of_lines, is_still, is_at, count_at, is_at_some, is_at_still_line}

@@ -1,19 +1,17 @@
 -- The sectors between neighbouring rays: no ray lies strictly within one, so the germ of an area is the same along all its directions.
-use Rattle.std.proofs.Common.{◌≡◌, ◌⊎◌, inl, inr, ℕ, zero, suc, ◌+◌, ◌%◌, ◌<◌, ℤ, pos, negsuc, ◌-ℤ◌, ◌*ℤ◌, neg_ℤ, ◌<ℤ◌, ◌≤ℤ◌, ◌≤◌, Bool, true, false, Less, List, [], ◌∷◌, length, get_or, ap, refl, sym, ◌∙◌, subst, arith}
+use Rattle.std.proofs.Common.{◌≡◌, ◌⊎◌, inl, inr, ℕ, ◌+◌, ◌%◌, ◌<◌, ℤ, pos, ◌-ℤ◌, ◌*ℤ◌, ◌<ℤ◌, ◌≤◌, Less, List, [], ◌∷◌, length, get_or, ap, refl, sym, ◌∙◌, subst, arith}
 use Rattle.std.specs.List.{AllPairs, Any}
-use Rattle.std.specs.Ordering.{ordering_then, bool_cmp, int_cmp}
 use Rattle.std.proofs.Math.Nat.{mod_self, mod-eq_of_lt}
-use Rattle.std.proofs.lemmas.Bool.{true≢false, cases_lt, cases_order, cases_eq}
-use Rattle.std.proofs.lemmas.Int.{by_lt_z}
+use Rattle.std.proofs.lemmas.Bool.{cases_lt, cases_order, cases_eq}
 use Rattle.std.proofs.lemmas.Option.{slice_get_within, slice_get_read, get_or_from_slice_get}
 use Rattle.whole_algebra.proofs.Laws.{linear}
 use Rattle.whole_algebra.proofs.Polynomials.{var, num, ◌⊖◌, ◌⊗◌, minus}
-use Rattle.whole_algebra.proofs.Certificates.{positive, at_most, vanishing, same, less_by, impossible_by, scaled, ◌⊞◌, ◌⊠◌}
+use Rattle.whole_algebra.proofs.Certificates.{positive, same, less_by, impossible_by, scaled, ◌⊞◌, ◌⊠◌}
 use Rattle.whole_algebra.proofs.Signs.{by_sign, <ℤ_apart}
 use Rattle.plane_laws.proofs.Directions.Angles.{joined_ways}
-use Rattle.whole_algebra.proofs.Comparisons.{less_int_cmp}
-use Rattle.plane_laws.specs.Directions.{Direction, past_half, bend_of, PointSameWay, IsStrictlyWithin}
-use Rattle.plane_exact.specs.Orders.{direction_of, bend, compare_angles}
+use Rattle.germ_laws.proofs.Rays.InTurn.{AreInTurn, around_a, around_b, around_c, turn_on, IsAhead, ahead_from, in_turn}
+use Rattle.plane_laws.specs.Directions.{Direction, bend_of, PointSameWay, IsStrictlyWithin}
+use Rattle.plane_exact.specs.Orders.{direction_of, compare_angles}
 use Rattle.plane_laws.specs.Plane.{Point}
 use Rattle.plane_exact.specs.declared.dir.Dir.{Dir}
 use Rattle.im_matrix.specs.declared.Loc.{Loc}
@@ -26,119 +24,6 @@ use Rattle.point_set.specs.Validity.{IsAtPlace}
 use Rattle.ring_laws.proofs.Germs.Areas.{clear_from}
 use Rattle.ring_laws.proofs.Germs.Edges.{AreClear}
 use Rattle.germ_laws.proofs.Sectors.Germ.{ArePointed, toward, toward_is, same_in_sector, same_where_clear}
-
--- ---- halves
--- up, or straight to the right
-abbrev IsUp : ℤ → ℤ → Type 0
-IsUp x y = (pos 0 <ℤ y) ⊎ ((y ≡ pos 0) × (pos 0 <ℤ x))
-
-up_from : (x y : ℤ) → ¬ ((x ≡ pos 0) × (y ≡ pos 0)) → past_half x y ≡ false → IsUp x y
-up_from x (pos (suc n)) m e = inl (omega (arith, linear))
-up_from (pos (suc k)) (pos zero) m e = inr (refl, omega (arith, linear))
-up_from (pos zero) (pos zero) m e = absurd (m (refl, refl))
-up_from (negsuc k) (pos zero) m e = cc
-up_from x (negsuc n) m e = cc
-
-down_from : (x y : ℤ) → past_half x y ≡ true → IsUp (neg_ℤ x) (neg_ℤ y)
-down_from x (pos (suc n)) e = cc
-down_from (pos k) (pos zero) e = cc
-down_from (negsuc k) (pos zero) e = inr (refl, omega (arith, linear))
-down_from x (negsuc n) e = inl (omega (arith, linear))
-
--- a and b point up, b is to the left of a, and c points down and isn't to the left of b: then a is to the left of c
-up_up_down : (ax ay bx by cx cy : ℤ) → IsUp ax ay → IsUp bx by → IsUp (neg_ℤ cx) (neg_ℤ cy) → pos 0 <ℤ ((ax *ℤ by) -ℤ (ay *ℤ bx))
-    → ((bx *ℤ cy) -ℤ (by *ℤ cx)) ≤ℤ pos 0 → pos 0 <ℤ ((cx *ℤ ay) -ℤ (cy *ℤ ax))
-up_up_down ax ay bx by cx cy a (inl b) (inr c) h k =
-    impossible_by (ax ∷ ay ∷ bx ∷ by ∷ cx ∷ cy ∷ [])
-    (at_most (var 2 ⊗ var 5 ⊖ var 3 ⊗ var 4) (num (pos 0)) k ⊞ positive (var 3) b ⊠ positive (minus (var 4)) c.1
-    ⊞ scaled (minus (var 2)) (vanishing (minus (var 5)) c.0)) refl
-up_up_down ax ay bx by cx cy (inl a) (inl b) (inl c) h k =
-    less_by (num (pos 0)) (var 4 ⊗ var 1 ⊖ var 5 ⊗ var 0) (ax ∷ ay ∷ bx ∷ by ∷ cx ∷ cy ∷ [])
-    (λ denied. denied ⊠ positive (var 3) b ⊞ positive (minus (var 5)) c ⊠ positive (var 0 ⊗ var 3 ⊖ var 1 ⊗ var 2) h
-    ⊞ positive (var 1) a ⊠ at_most (var 2 ⊗ var 5 ⊖ var 3 ⊗ var 4) (num (pos 0)) k) refl
-up_up_down ax ay bx by cx cy (inr a) (inl b) (inl c) h k =
-    less_by (num (pos 0)) (var 4 ⊗ var 1 ⊖ var 5 ⊗ var 0) (ax ∷ ay ∷ bx ∷ by ∷ cx ∷ cy ∷ [])
-    (λ denied. denied ⊞ positive (var 0) a.1 ⊠ positive (minus (var 5)) c ⊞ scaled (var 4) (vanishing (var 1) a.0)) refl
-up_up_down ax ay bx by cx cy (inl a) (inr b) c h k =
-    impossible_by (ax ∷ ay ∷ bx ∷ by ∷ cx ∷ cy ∷ [])
-    (positive (var 0 ⊗ var 3 ⊖ var 1 ⊗ var 2) h ⊞ positive (var 1) a ⊠ positive (var 2) b.1
-    ⊞ scaled (minus (var 0)) (vanishing (var 3) b.0)) refl
-up_up_down ax ay bx by cx cy (inr a) (inr b) c h k =
-    impossible_by (ax ∷ ay ∷ bx ∷ by ∷ cx ∷ cy ∷ [])
-    (positive (var 0 ⊗ var 3 ⊖ var 1 ⊗ var 2) h ⊞ scaled (minus (var 0)) (vanishing (var 3) b.0) ⊞ scaled (var 2) (vanishing (var 1) a.0))
-    refl
-
--- a points up, and b and c down, b isn't to the left of a, and c is to the left of b: then a is to the left of c
-up_down_down : (ax ay bx by cx cy : ℤ) → IsUp ax ay → IsUp (neg_ℤ bx) (neg_ℤ by) → IsUp (neg_ℤ cx) (neg_ℤ cy)
-    → ((ax *ℤ by) -ℤ (ay *ℤ bx)) ≤ℤ pos 0 → pos 0 <ℤ ((bx *ℤ cy) -ℤ (by *ℤ cx)) → pos 0 <ℤ ((cx *ℤ ay) -ℤ (cy *ℤ ax))
-up_down_down ax ay bx by cx cy (inr a) b (inl c) h k =
-    less_by (num (pos 0)) (var 4 ⊗ var 1 ⊖ var 5 ⊗ var 0) (ax ∷ ay ∷ bx ∷ by ∷ cx ∷ cy ∷ [])
-    (λ denied. denied ⊞ positive (var 0) a.1 ⊠ positive (minus (var 5)) c ⊞ scaled (var 4) (vanishing (var 1) a.0)) refl
-up_down_down ax ay bx by cx cy (inl a) (inl b) (inl c) h k =
-    less_by (num (pos 0)) (var 4 ⊗ var 1 ⊖ var 5 ⊗ var 0) (ax ∷ ay ∷ bx ∷ by ∷ cx ∷ cy ∷ [])
-    (λ denied. denied ⊠ positive (minus (var 3)) b ⊞ positive (var 1) a ⊠ positive (var 2 ⊗ var 5 ⊖ var 3 ⊗ var 4) k
-    ⊞ positive (minus (var 5)) c ⊠ at_most (var 0 ⊗ var 3 ⊖ var 1 ⊗ var 2) (num (pos 0)) h) refl
-up_down_down ax ay bx by cx cy (inl a) (inr b) (inl c) h k =
-    impossible_by (ax ∷ ay ∷ bx ∷ by ∷ cx ∷ cy ∷ [])
-    (at_most (var 0 ⊗ var 3 ⊖ var 1 ⊗ var 2) (num (pos 0)) h ⊞ positive (var 1) a ⊠ positive (minus (var 2)) b.1
-    ⊞ scaled (minus (var 0)) (vanishing (minus (var 3)) b.0)) refl
-up_down_down ax ay bx by cx cy a (inl b) (inr c) h k =
-    impossible_by (ax ∷ ay ∷ bx ∷ by ∷ cx ∷ cy ∷ [])
-    (positive (var 2 ⊗ var 5 ⊖ var 3 ⊗ var 4) k ⊞ positive (minus (var 3)) b ⊠ positive (minus (var 4)) c.1
-    ⊞ scaled (var 2) (vanishing (minus (var 5)) c.0)) refl
-up_down_down ax ay bx by cx cy a (inr b) (inr c) h k =
-    impossible_by (ax ∷ ay ∷ bx ∷ by ∷ cx ∷ cy ∷ [])
-    (positive (var 2 ⊗ var 5 ⊖ var 3 ⊗ var 4) k ⊞ scaled (var 2) (vanishing (minus (var 5)) c.0)
-    ⊞ scaled (minus (var 4)) (vanishing (minus (var 3)) b.0)) refl
-
--- ---- three directions in their order around
--- counter-clockwise b comes after a, c after b and a after c, in one turn: at least two of them are to the left of the one before
-data AreInTurn (a b c : Direction) : Type 0 where
-  around_a : pos 0 <ℤ bend_of c a → pos 0 <ℤ bend_of a b → AreInTurn a b c
-  around_b : pos 0 <ℤ bend_of a b → pos 0 <ℤ bend_of b c → AreInTurn a b c
-  around_c : pos 0 <ℤ bend_of b c → pos 0 <ℤ bend_of c a → AreInTurn a b c
-
-turn_on : {a b c : Direction} → AreInTurn a b c → AreInTurn b c a
-turn_on (around_a h k) = around_c h k
-turn_on (around_b h k) = around_a h k
-turn_on (around_c h k) = around_b h k
-
--- e is of the second half and d of the first, or e is of d's half and to the left of d
-abbrev IsAhead : Dir → Dir → Type 0
-IsAhead d e =
-    ((past_half d.dx d.dy ≡ false) × (past_half e.dx e.dy ≡ true))
-    ⊎ ((past_half d.dx d.dy ≡ past_half e.dx e.dy) × (pos 0 <ℤ bend_of (direction_of d) (direction_of e)))
-
-ahead_from : (d e : Dir) → compare_angles d e ≡ Less → IsAhead d e
-unfolding bend_of
-ahead_from d e h = go (past_half d.dx d.dy) (past_half e.dx e.dy) h
-  where
-    go : (p q : Bool) → ordering_then (bool_cmp p q) (int_cmp (pos 0) (bend d e)) ≡ Less → ((p ≡ false) × (q ≡ true))
-        ⊎ ((p ≡ q) × (pos 0 <ℤ bend d e))
-    go false true k = inl (refl, refl)
-    go false false k = inr (refl, less_int_cmp (pos 0) (bend d e) k)
-    go true true k = inr (refl, less_int_cmp (pos 0) (bend d e) k)
-    go true false k = cc
-
-in_turn : (a b c : Dir) → compare_angles a b ≡ Less → compare_angles b c ≡ Less
-    → AreInTurn (direction_of a) (direction_of b) (direction_of c)
-unfolding bend_of
-in_turn a b c h k = go (ahead_from a b h) (ahead_from b c k)
-  where
-    up_first : (d : Dir) → past_half d.dx d.dy ≡ false → IsUp d.dx d.dy
-    up_first d e = up_from d.dx d.dy d.way.turned e
-
-    go : IsAhead a b → IsAhead b c → AreInTurn (direction_of a) (direction_of b) (direction_of c)
-    go (inl p) (inl q) = absurd (true≢false (sym p.1 ∙ q.0))
-    go (inl p) (inr q) =
-        by_lt_z (pos 0) (bend_of (direction_of a) (direction_of b)) (λ l. around_b l q.1)
-        (λ n. around_c q.1 (up_down_down a.dx a.dy b.dx b.dy c.dx c.dy (up_first a p.0) (down_from b.dx b.dy p.1)
-        (down_from c.dx c.dy (sym q.0 ∙ p.1)) n q.1))
-    go (inr p) (inl q) =
-        by_lt_z (pos 0) (bend_of (direction_of b) (direction_of c)) (λ l. around_b p.1 l)
-        (λ n. around_a (up_up_down a.dx a.dy b.dx b.dy c.dx c.dy (up_first a (p.0 ∙ q.0)) (up_first b q.0)
-        (down_from c.dx c.dy q.1) p.1 n) p.1)
-    go (inr p) (inr q) = around_b p.1 q.1
 
 -- ---- directions that point the same way
 opposed : (u w : Direction) → pos 0 <ℤ bend_of u w → pos 0 <ℤ bend_of w u → ⊥
@@ -220,11 +105,12 @@ one_at items i j x y e x_is y_is = sym (get_or_from_slice_get items i x x x_is) 
     ∙ get_or_from_slice_get items j y x y_is
 
 module _ (rays : List Dir) (ascending : AllPairs (λ d e. compare_angles d e ≡ Less) rays) where
-  in_order : (i j : ℕ) (d e : Dir) → i < j → IsAtPlace rays i d → IsAtPlace rays j e → compare_angles d e ≡ Less
+  in_order : (i j : ℕ) (d e : Dir) → i < j → IsAtPlace rays i d → IsAtPlace rays j e
+      → IsAhead (direction_of d) (direction_of e)
   in_order i j d e h d_is e_is =
       let first = sym (get_or_from_slice_get rays i d d d_is) in
       let second = sym (get_or_from_slice_get rays j e d e_is) in
-      (λ z. compare_angles (first z) (second z)) ∙ ascending i j d h (slice_get_within rays j e e_is)
+      ahead_from d e ((λ z. compare_angles (first z) (second z)) ∙ ascending i j d h (slice_get_within rays j e e_is))
 
   -- t points the way of the ray u at place k: it isn't strictly within the sector of the ray r at place i and the next one, s
   module _ (i k : ℕ) (r s u : Dir) (r_is : IsAtPlace rays i r) (u_is : IsAtPlace rays k u) (t : Direction)
@@ -250,12 +136,12 @@ module _ (rays : List Dir) (ascending : AllPairs (λ d e. compare_angles d e ≡
         after h (inl e) = at_second (i + 1) s_is e
         after h (inr (inl l)) = absurd (omega (arith, h, l))
         after h (inr (inr l)) = elsewhere
-            (in_turn r s u (in_order i (i + 1) r s (omega arith) r_is s_is) (in_order (i + 1) k s u l s_is u_is))
+            (in_turn (direction_of r) (direction_of s) (direction_of u) (in_order i (i + 1) r s (omega arith) r_is s_is) (in_order (i + 1) k s u l s_is u_is))
 
         before : (k ≡ i) ⊎ ((k < i) ⊎ (i < k)) → IsOutside
         before (inl e) = at_first e
         before (inr (inl l)) = elsewhere
-            (turn_on (in_turn u r s (in_order k i u r l u_is r_is) (in_order i (i + 1) r s (omega arith) r_is s_is)))
+            (turn_on (in_turn (direction_of u) (direction_of r) (direction_of s) (in_order k i u r l u_is r_is) (in_order i (i + 1) r s (omega arith) r_is s_is)))
         before (inr (inr l)) = after l (cases_order k (i + 1))
 
     off_last_sector : length rays ≤ (i + 1) → IsAtPlace rays 0 s → IsOutside
@@ -264,7 +150,7 @@ module _ (rays : List Dir) (ascending : AllPairs (λ d e. compare_angles d e ≡
         from_zero : k < i → (k ≡ 0) ⊎ (k ≡ 0 → ⊥) → IsOutside
         from_zero l (inl e) = at_second 0 s_is e
         from_zero l (inr n) = elsewhere
-            (turn_on (turn_on (in_turn s u r (in_order 0 k s u (omega (arith, n)) s_is u_is) (in_order k i u r l u_is r_is))))
+            (turn_on (turn_on (in_turn (direction_of s) (direction_of u) (direction_of r) (in_order 0 k s u (omega (arith, n)) s_is u_is) (in_order k i u r l u_is r_is))))
 
         before : (k ≡ i) ⊎ ((k < i) ⊎ (i < k)) → IsOutside
         before (inl e) = at_first e

@@ -18,6 +18,7 @@ use Rattle.plane_laws.proofs.Near.Near.{IsNear}
 use Rattle.plane_laws.proofs.Near.Away.{away_point, away_point_is, away_near, far_for}
 use Rattle.figure_laws.proofs.Points.Kinds.{interior_is_covered}
 use Rattle.figure_laws.proofs.Points.Same.{is_covered-same}
+use Rattle.germ_laws.proofs.Rays.WayTo.{way_to, way_to_is}
 use Rattle.germ_laws.proofs.Room.Germs.{starry, location_alike, away_cone}
 use Rattle.plane_laws.proofs.Near.Triangles.{holds_near, near_triangle}
 use Rattle.point_set.specs.Cover.{IsCoveredAround}
@@ -40,27 +41,6 @@ cover_room (area ∷ areas) shaped v =
           (location_alike area (All-head IsAreaShaped area areas shaped) v first k (omega arith) d p q near_p near_q c c' i) ||
           rest.alike k (omega arith) d p q near_p near_q c c' i);
     }
-
--- ---- the direction of another point
-unfoldable pub way_to : (v q : Point) → ¬ IsSamePoint v q → Direction
-way_to v q apart = record { x = shift v q; y = rise v q; moves = λ z. apart (same_from_steps v q z.0 z.1) }
-
-pub way_to_is : (v q : Point) (apart : ¬ IsSamePoint v q) → IsInCone v (way_to v q apart) (way_to v q apart) q
-unfolding way_to
-way_to_is v q apart = record {
-  i = pos 1;
-  j = pos 0;
-  first = omega (arith, linear);
-  second = omega (arith, linear);
-  some = omega (arith, linear);
-  times = pos 1;
-  positive = omega (arith, linear);
-  across = once (shift v q);
-  above = once (rise v q);
-}
-  where
-    once : (z : ℤ) → pos 1 *ℤ z ≡ (pos 1 *ℤ z) +ℤ (pos 0 *ℤ z)
-    once z = identity (num (pos 1) ⊗ var 0) (num (pos 1) ⊗ var 0 ⊕ num (pos 0) ⊗ var 0) (z ∷ []) refl
 
 pub around_from_interior : (f : Figure) (v : Point) → IsAreaInterior f v → IsCoveredAround f v
 around_from_interior f v t =

@@ -41,6 +41,7 @@ use Rattle.node_laws.proofs.Nodes.Decided.{node_is_decided, node_same}
 use Rattle.node_laws.proofs.Nodes.Finite.{nodes_are_finite}
 use Rattle.meeting_laws.proofs.Ways.OneLine.{zero_or_not, same_or_not, another, one_line}
 use Rattle.node_laws.proofs.Nodes.Positions.{ends_are_positions, positions_of_both}
+use Rattle.germ_laws.proofs.Rays.WayTo.{way_to, way_to_is}
 use Rattle.node_laws.proofs.Visible.SeenNode.{seen_node}
 
 -- a node from which no edge comes before p
@@ -241,10 +242,6 @@ module _ (a b : Figure) where
                 not_v same = apart (same_trans same (same_sym (both_ways near.on (segment_same (same_refl p) (same_refl n) same within))))
 
     -- ---- seen
-    -- a number, once
-    once : (x : ℤ) → pos 1 *ℤ x ≡ (pos 1 *ℤ x) +ℤ (pos 0 *ℤ x)
-    once x = identity (num (pos 1) ⊗ var 0) (num (pos 1) ⊗ var 0 ⊕ num (pos 0) ⊗ var 0) (x ∷ []) refl
-
     -- two parts in one direction
     joined : (c i j x z : ℤ) → c *ℤ z ≡ (i *ℤ x) +ℤ (j *ℤ x) → c *ℤ z ≡ (i +ℤ j) *ℤ x
     joined c i j x z e = same_from (var 0 ⊗ var 4) ((var 1 ⊕ var 2) ⊗ var 3) (c ∷ i ∷ j ∷ x ∷ z ∷ [])
@@ -257,22 +254,11 @@ module _ (a b : Figure) where
 
       -- the direction from the node to p
       way : Direction
-      way = record { x = shift s.v p; y = rise s.v p; moves = λ m. apart (same_from_steps s.v p m.0 m.1) }
+      way = way_to s.v p apart
 
       -- p lies that way
       toward : IsInCone s.v way way p
-      unfolding way
-      toward = record {
-        i = pos 1;
-        j = pos 0;
-        first = omega (arith, linear);
-        second = omega (arith, linear);
-        some = omega (arith, linear);
-        times = pos 1;
-        positive = omega (arith, linear);
-        across = once (shift s.v p);
-        above = once (rise s.v p);
-      }
+      toward = way_to_is s.v p apart
 
       -- no edge through the node has an end z in that direction
       none_leads : (u z : Point) → IsEnd Edges u z → IsOnSegment u z s.v → ¬ IsInCone s.v way way z

@@ -10,7 +10,7 @@ use Rattle.plane_laws.specs.Plane.{Point, IsSamePoint, IsOnSegment, IsStrictlyBe
 use Rattle.plane_laws.specs.Along.{IsInCone}
 use Rattle.ring_laws.proofs.Germs.Edges.{shift_self, rise_self}
 use Rattle.plane_laws.proofs.Near.Near.{shift_mix, rise_mix}
-use Rattle.kind_laws.proofs.Cover.Neighbourhood.{way_to}
+use Rattle.germ_laws.proofs.Rays.WayTo.{way_to}
 
 -- ---- steps between mixes of two ends
 -- what k and l steps are, by weights: the step from x to y is (s·v − t·u) of the whole

@@ -18,7 +18,7 @@ use Rattle.ring_laws.proofs.Germs.Areas.{segment_within}
 use Rattle.ring_laws.proofs.Germs.Edges.{on_true, direction_pointed, ends_decide, is_toward, Decides-is_toward}
 use Rattle.germ_laws.proofs.Room.Germs.{bool_same, AreAllAlike}
 use Rattle.kind_laws.proofs.Hands.InSector.{strictly_from_on}
-use Rattle.kind_laws.proofs.Cover.Neighbourhood.{way_to, way_to_is}
+use Rattle.germ_laws.proofs.Rays.WayTo.{way_to, way_to_is}
 use Rattle.germ_laws.proofs.Room.Starry.{ray_order}
 use Rattle.point_set.specs.Nodes.{all_positions, segs_of, segs_of_both, IsOnlyCommonPoint, IsNode, position, crossing}
 use Rattle.kind_laws.proofs.Location.EdgeRays.{all_place}

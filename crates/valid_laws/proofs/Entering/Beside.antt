@@ -31,6 +31,9 @@ use Rattle.ring_laws.proofs.Room.Edges.{HoldBoth, room}
 use Rattle.plane_laws.proofs.Near.Away.{away_point, away_point_is, away_near, far_for}
 use Rattle.ring_laws.proofs.Germs.Edges.{shift_self, rise_self}
 use Rattle.ring_laws.proofs.Germs.Areas.{location_stays}
+use Rattle.germ_laws.proofs.Rays.WayTo.{way_to, way_to_is}
+use Rattle.germ_laws.proofs.Room.Starry.{near_self}
+use Rattle.germ_laws.proofs.Sectors.Closed.{none_held}
 use Rattle.side_laws.proofs.Rings.Hand.{some_inside_hand}
 use Rattle.side_laws.proofs.Areas.Hands.{AreRingsClean, hole_shaped, shell_hand, hole_hand}
 use Rattle.side_laws.proofs.Edges.Beside.{left_way, right_way, left_way_slope, right_way_slope}
@@ -39,24 +42,6 @@ use Rattle.valid_laws.proofs.Entering.Walk.{Placed, some_place}
 use Rattle.figure_laws.proofs.Lists.Places.{all_at}
 
 -- ---- near a point off an area's edges the location stays
-near_self : (v : Point) (n : ℕ) → IsNear v n v
-near_self v n =
-    let still_x : pos n *ℤ shift v v ≡ pos 0 = ap (λ z. pos n *ℤ z) (shift_self v) ∙ *ℤ-zero (pos n) in
-    let still_y : pos n *ℤ rise v v ≡ pos 0 = ap (λ z. pos n *ℤ z) (rise_self v) ∙ *ℤ-zero (pos n) in
-    let heavy : pos 0 <ℤ (v.w *ℤ v.w) = pos-*-pos v.heavy v.heavy in
-    record {
-      left = omega (arith, linear, still_x, heavy);
-      right = omega (arith, linear, still_x, heavy);
-      bottom = omega (arith, linear, still_y, heavy);
-      top = omega (arith, linear, still_y, heavy);
-    }
-
-none_held : (v m : Point) (edges : List Seg) → is_on_edges v edges ≡ false → HoldBoth v m edges → is_on_edges m edges ≡ false
-none_held v m [] off both = refl
-none_held v m (e ∷ edges) off both =
-    let tests = or_parts (is_on_edge v e) (is_on_edges v edges) off in
-    or_from (is_on_edge m e) (is_on_edges m edges) (both.0 tests.0) (none_held v m edges tests.1 both.1)
-
 settled_area : (area : Area) → IsAreaShaped area → (v : Point) → is_on_edges v (edges_in area) ≡ false → (d : Direction)
     → HoldsAlong (λ q. location area q ≡ location area v) v d
 settled_area area shaped v off d =
@@ -144,27 +129,6 @@ some_way_to hand.Right sided e apart = record { d = right_way e apart; to = righ
 some_way_to hand.Line sided e apart = absurd (sided refl)
 
 -- ---- some direction along an edge
-way_to : (q a : Point) → ¬ IsSamePoint q a → Direction
-way_to q a apart = record { x = shift q a; y = rise q a; moves = λ z. apart (same_from_steps q a z.0 z.1) }
-
-way_leads : (q a : Point) (apart : ¬ IsSamePoint q a) → IsInCone q (way_to q a apart) (way_to q a apart) a
-unfolding way_to shift
-way_leads q a apart = record {
-  i = pos 1;
-  j = pos 0;
-  first = omega (arith, linear);
-  second = omega (arith, linear);
-  some = omega (arith, linear);
-  times = pos 1;
-  positive = omega (arith, linear);
-  across = once (shift q a);
-  above = once (rise q a);
-}
-  where
-    once : (z : ℤ) → pos 1 *ℤ z ≡ (pos 1 *ℤ z) +ℤ (pos 0 *ℤ z)
-    once z = same_from (num (pos 1) ⊗ var 0) (num (pos 1) ⊗ var 0 ⊕ num (pos 0) ⊗ var 0) (z ∷ [])
-        (same (num (pos 0)) (num (pos 0)) refl) refl
-
 record HasRun (v : Point) (e : Seg) : Type 0 where
   d : Direction
   runs : RunsAlong v d e
@@ -176,10 +140,10 @@ some_run v e on apart = go (is_same_point v (point_of e.a)) refl
     go true h =
         let other : ¬ IsSamePoint v (point_of e.b) = λ one. apart
         (same_trans (same_sym ((Decides-is_same_point v (point_of e.a)).0 h)) one) in
-        record { d = way_to v (point_of e.b) other; runs = record { on = on; end = inr (way_leads v (point_of e.b) other) } }
+        record { d = way_to v (point_of e.b) other; runs = record { on = on; end = inr (way_to_is v (point_of e.b) other) } }
     go false h =
         let other : ¬ IsSamePoint v (point_of e.a) = λ one. true≢false (sym ((Decides-is_same_point v (point_of e.a)).1 one) ∙ h) in
-        record { d = way_to v (point_of e.a) other; runs = record { on = on; end = inl (way_leads v (point_of e.a) other) } }
+        record { d = way_to v (point_of e.a) other; runs = record { on = on; end = inl (way_to_is v (point_of e.a) other) } }
 
 -- ---- the lemma
 pub beside : LawMoving → LawAlone → LawBeside

@@ -36,6 +36,7 @@ use Rattle.valid_laws.proofs.Edges.Moving.{moving as edges_move}
 use Rattle.valid_laws.specs.Entering.{edges_in, Enters, LawMoving, LawReach}
 use Rattle.meeting_laws.specs.Meetings.{IsFirstMeeting, LawFirstMeeting}
 use Rattle.figure_laws.proofs.Lists.Places.{some_same}
+use Rattle.germ_laws.proofs.Rays.WayTo.{way_to, way_to_is}
 use Rattle.valid_laws.proofs.Entering.Walk.{Placed, some_place, cone_mix, away_cone}
 
 -- ---- edges of two lists
@@ -287,28 +288,6 @@ module _ (first : LawFirstMeeting) (one other : Area) (shaped_one : IsAreaShaped
           (λ k. absurd (apart (no_step q d a h k)))
           (λ more. ahead (cone_toward q d a h more))
 
-  -- the direction to a point
-  way_to : (q a : Point) → ¬ IsSamePoint q a → Direction
-  way_to q a apart = record { x = shift q a; y = rise q a; moves = λ z. apart (same_from_steps q a z.0 z.1) }
-
-  one_step : (z : ℤ) → pos 1 *ℤ z ≡ (pos 1 *ℤ z) +ℤ (pos 0 *ℤ z)
-  one_step z = same_from (num (pos 1) ⊗ var 0) (num (pos 1) ⊗ var 0 ⊕ num (pos 0) ⊗ var 0) (z ∷ [])
-      (same (num (pos 0)) (num (pos 0)) refl) refl
-
-  way_leads : (q a : Point) (apart : ¬ IsSamePoint q a) → IsInCone q (way_to q a apart) (way_to q a apart) a
-  unfolding way_to shift
-  way_leads q a apart = record {
-    i = pos 1;
-    j = pos 0;
-    first = omega (arith, linear);
-    second = omega (arith, linear);
-    some = omega (arith, linear);
-    times = pos 1;
-    positive = omega (arith, linear);
-    across = one_step (shift q a);
-    above = one_step (rise q a);
-  }
-
   none_of_cone : (q : Point) (d : Direction) (a : Point) (apart : ¬ IsSamePoint q a) → ¬ (cross_of q d a ≡ pos 0)
       → ¬ IsInCone q d (way_to q a apart) q
   unfolding cross_of shift way_to
@@ -395,7 +374,7 @@ module _ (first : LawFirstMeeting) (one other : Area) (shaped_one : IsAreaShaped
         d = way_to q p apart
 
         c : IsInCone q d d p
-        c = way_leads q p apart
+        c = way_to_is q p apart
 
         germ_one : IsGerm one q d (location one p)
         germ_one = germ_towards one shaped_one all (λ m h. in_left (edges_in one) (edges_in other) m h) meeting d c
@@ -408,7 +387,7 @@ module _ (first : LawFirstMeeting) (one other : Area) (shaped_one : IsAreaShaped
         turn_to g on e among turned = round_both there meeting d c (record {
           r = way_to q e.a e.apart;
           a = e.a;
-          c = way_leads q e.a e.apart;
+          c = way_to_is q e.a e.apart;
           on = λ x within. among x (between_on q g e.a on e.on x within);
           pointed = none_of_cone q d e.a e.apart turned;
         })

@@ -32,6 +32,7 @@ use Rattle.std.specs.List.{list_any}
 use lib.Signed.{<ℤ_irrefl, <ℤ-≤ℤ_trans}
 use Rattle.meeting_laws.proofs.Meetings.FirstOfOne.{meeting}
 use Rattle.valid_laws.specs.Entering.{edges_in, LawWalk}
+use Rattle.germ_laws.proofs.Rays.WayTo.{way_to, way_to_is}
 use Rattle.meeting_laws.specs.Meetings.{IsFirstMeeting, LawFirstMeeting}
 
 -- k·x is s·a + t·b and l·q is u·x + w·a; so q, x and b are in this order
@@ -193,30 +194,14 @@ module _ (first : LawFirstMeeting) (area : Area) (shaped : IsAreaShaped area) (p
           on_q = (Decides-is_on_segment (point_of e.a) (point_of e.b) q).1
               (segment_within (on_true on) (start_on_segment (point_of e.a) (point_of e.b)) meeting.on_way)
 
-          d : Direction
-          d = record {
-            x = shift q x;
-            y = rise q x;
-            moves = λ still.
-                true≢false (sym meeting.on ∙ is_on_edges-same (same_from_steps q x still.0 still.1) (edges_in area) ∙ off_part x lies);
-          }
+          apart : ¬ IsSamePoint q x
+          apart same = true≢false (sym meeting.on ∙ is_on_edges-same same (edges_in area) ∙ off_part x lies)
 
-          one_step : (z : ℤ) → pos 1 *ℤ z ≡ (pos 1 *ℤ z) +ℤ (pos 0 *ℤ z)
-          one_step z = same_from (num (pos 1) ⊗ var 0) (num (pos 1) ⊗ var 0 ⊕ num (pos 0) ⊗ var 0) (z ∷ [])
-              (same (num (pos 0)) (num (pos 0)) refl) refl
+          d : Direction
+          d = way_to q x apart
 
           to_x : IsInCone q d d x
-          to_x = record {
-            i = pos 1;
-            j = pos 0;
-            first = omega (arith, linear);
-            second = omega (arith, linear);
-            some = omega (arith, linear);
-            times = pos 1;
-            positive = omega (arith, linear);
-            across = one_step (shift q x);
-            above = one_step (rise q x);
-          }
+          to_x = way_to_is q x apart
 
           o : IsOnSegment q (point_of e.b) x
           o = back_always (on_true on) meeting.on_way
