@@ -18,7 +18,7 @@ use Rattle.point_set.specs.Relation.{IsInCell}
 use Rattle.point_set.specs.Rings.{is_on_edges}
 use Rattle.point_set.specs.Samples.{IsSeenOnEdge, IsSeenInSector, IsSample}
 use Rattle.point_set.specs.Visible.{AreValid, IsVisibleOff, IsVisibleOn}
-use Rattle.kind_laws.proofs.Cover.Neighbourhood.{way_to, way_to_is}
+use Rattle.germ_laws.proofs.Rays.WayTo.{way_to, way_to_is}
 use Rattle.stay_laws.proofs.Stays.Seen.{seen_is_germ}
 use Rattle.node_laws.proofs.Nodes.Decided.{node_is_decided, node_same}
 use Rattle.node_laws.proofs.Visible.OffEdges.{visible_off}

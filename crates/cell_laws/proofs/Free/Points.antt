@@ -18,7 +18,7 @@ use Rattle.plane_laws.proofs.Segments.Mixes.{start_on_segment}
 use Rattle.ring_laws.proofs.Germs.Areas.{toward_on}
 use Rattle.germ_laws.proofs.Room.Germs.{away_cone}
 use Rattle.germ_laws.proofs.Room.Starry.{not_here}
-use Rattle.kind_laws.proofs.Cover.Neighbourhood.{way_to, way_to_is}
+use Rattle.germ_laws.proofs.Rays.WayTo.{way_to, way_to_is}
 use Rattle.cell_laws.proofs.Directions.Exist.{HasDirections, directions_exist}
 use Rattle.cell_laws.proofs.Directions.Middles.{HasMiddle, middle_of, middle_in_sector, sector_free}
 use Rattle.cell_laws.proofs.Free.Nodes.{AreNodesLonely, nodes_lonely, IsFree}

@@ -258,11 +258,12 @@ module _ (a b : Figure) where
 
       -- p lies that way
       toward : IsInCone s.v way way p
+      unfolding way
       toward = way_to_is s.v p apart
 
       -- no edge through the node has an end z in that direction
       none_leads : (u z : Point) → IsEnd Edges u z → IsOnSegment u z s.v → ¬ IsInCone s.v way way z
-      unfolding way
+      unfolding way way_to
       none_leads u z e on c = go (one_ray s.v p z c.times (c.i +ℤ c.j) c.positive c.some
           (joined c.times c.i c.j (shift s.v p) (shift s.v z) c.across) (joined c.times c.i c.j (rise s.v p) (rise s.v z) c.above))
         where

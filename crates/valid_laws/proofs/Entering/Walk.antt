@@ -183,6 +183,7 @@ module _ (first : LawFirstMeeting) (area : Area) (shaped : IsAreaShaped area) (p
   along_edge : (e : Seg) → location area (point_of e.a) ≢ part
       → ((v : Point) → is_on_edge v e ≡ true → is_on_edges v (edges_in area) ≡ true → (d : Direction) → IsInCone v d d (point_of e.b)
       → ¬ IsGerm area v d part) → (x : Point) → is_on_edge x e ≡ true → location area x ≢ part
+  unfolding way_to
   along_edge e start held x on lies = go (first (edges_in area) x (point_of e.a) (off_part x lies))
     where
       go : ((m : Point) → IsOnSegment x (point_of e.a) m → is_on_edges m (edges_in area) ≡ false)
