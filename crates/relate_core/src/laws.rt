@@ -1,0 +1,4 @@
+//! The parts of an evaluation that have a contract of their own.
+
+pub use crate::filling::fill;
+pub use crate::node_sections::sections_at;
