@@ -1,6 +1,6 @@
-ghost use Rattle.std.specs.Prelude.{◌<◌, ◌↔◌, length, IsTrue};
+ghost use Rattle.std.specs.Prelude.{◌≡◌, ◌<◌, ◌↔◌, length, IsTrue};
 ghost use Rattle.plane_exact.specs.declared.dir.Dir.{Dir};
-ghost use Rattle.point_set.specs.Sectors.{sectors_of};
+ghost use Rattle.point_set.specs.Sectors.{sectors_of, sector_before};
 ghost use Rattle.point_set.specs.Validity.{IsAtPlace};
 ghost use Rattle.fan_order.specs.Sections.{AreHandsAlike, AreSided};
 ghost use Rattle.fan_laws.specs.Parts.{IsSectorFull, IsSectorPart, IsRayPart};
@@ -31,14 +31,21 @@ pub(crate) fn part_of_sector(fan: &Fan, at: DimLoc, which: Which, i: usize) -> L
     }
 }
 
+/// The place of the sector that ends at ray `i`, of so many rays.
+fn place_before(count: usize, i: usize) -> usize
+    requires within { i < count }
+    ensures before { result ≡ sector_before count i }
+{
+    if i == 0 { count - 1 } else { i - 1 }
+}
+
 /// The part of a figure in which a ray lies, by the two sectors beside it and the lines along it.
 pub(crate) fn part_of_ray(fan: &Fan, at: DimLoc, which: Which, i: usize) -> Loc
     requires within { i < length fan.now.rays }
     ensures part { AreHandsAlike which fan.now.sections → AreSided which fan.now.sections
         → (ray : Dir) → IsAtPlace fan.now.rays i ray → IsRayPart at which fan.now.sections fan.now.rays i ray result }
 {
-    let count = fan.rays();
-    let before = (i + (count - 1)) % count;
+    let before = place_before(fan.rays(), i);
     match (is_full(fan, at, which, before), is_full(fan, at, which, i)) {
         (true, true) => Loc::Interior,
         (true, false) | (false, true) => Loc::Boundary,
