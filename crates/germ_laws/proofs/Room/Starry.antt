@@ -84,8 +84,9 @@ ray_order {v} {d} {p} {q} c k =
     (λ h. inl (nearer c k h))
 
 -- ---- a point in a direction isn't the point itself
-pub not_here : {v : Point} {d : Direction} {p : Point} → IsInCone v d d p → ¬ IsSamePoint v p
-not_here {v} {d} {p} c alike = direction_pointed v d (record {
+-- nor is a point between two directions that aren't opposite
+pub between_apart : {v : Point} {d e : Direction} {p : Point} → ¬ IsInCone v d e v → IsInCone v d e p → ¬ IsSamePoint v p
+between_apart {v} {d} {e} {p} pointed c alike = pointed (record {
   i = c.i;
   j = c.j;
   first = c.first;
@@ -97,6 +98,9 @@ not_here {v} {d} {p} c alike = direction_pointed v d (record {
       ∙ c.across;
   above = ap (λ z. c.times *ℤ z) (rise_self v ∙ sym ((OneSign-zero (rise_same (same_refl v) (same_sym alike))).1 (rise_self v))) ∙ c.above;
 })
+
+pub not_here : {v : Point} {d : Direction} {p : Point} → IsInCone v d d p → ¬ IsSamePoint v p
+not_here {v} {d} c = between_apart (direction_pointed v d) c
 
 -- ---- one edge
 pub stub : Pt → Seg

@@ -63,7 +63,8 @@ just_left r s t h bent n l far = record {
     left = left_of_sum r.x r.y t.x t.y (pos (suc n)) (pos (suc l)) (omega (arith, linear)) h
 
 -- ---- near a point that is on no edge the location stays
-none_held : (v m : Point) (edges : List Seg) → is_on_edges v edges ≡ false → HoldBoth v m edges → is_on_edges m edges ≡ false
+-- what is on no more edges than v is on none
+pub none_held : (v m : Point) (edges : List Seg) → is_on_edges v edges ≡ false → HoldBoth v m edges → is_on_edges m edges ≡ false
 none_held v m [] off both = refl
 none_held v m (e ∷ edges) off both =
     let tests = or_parts (is_on_edge v e) (is_on_edges v edges) off in

@@ -44,7 +44,8 @@ zero_sum : {d e : Direction} {x y : ℤ} → IsSum d e x y → x ≡ pos 0 → y
 zero_sum q h k = record
     { i = q.i; j = q.j; first = q.first; second = q.second; some = q.some; across = sym h ∙ q.across; above = sym k ∙ q.above }
 
-cone_pointed : (v : Point) {d e : Direction} → ArePointed d e → ¬ IsInCone v d e v
+-- v itself doesn't lie from v between two directions that aren't opposite
+pub cone_pointed : (v : Point) {d e : Direction} → ArePointed d e → ¬ IsInCone v d e v
 cone_pointed v n c = n
     (zero_sum (cone_sum c) (ap (λ z. c.times *ℤ z) (shift_self v) ∙ *ℤ-zero c.times)
     (ap (λ z. c.times *ℤ z) (rise_self v) ∙ *ℤ-zero c.times))
@@ -53,7 +54,8 @@ cone_pointed v n c = n
 pub toward : {v : Point} {d e : Direction} {a : Point} → ArePointed d e → IsInCone v d e a → Direction
 toward {v} {d} {e} {a} n c = record { x = c.times *ℤ shift v a; y = c.times *ℤ rise v a; moves = λ z. n (zero_sum (cone_sum c) z.0 z.1) }
 
-toward_sum : {v : Point} {d e : Direction} {a : Point} (n : ArePointed d e) (c : IsInCone v d e a) → IsSum d e (toward n c).x (toward n c).y
+-- it is a sum of the two
+pub toward_sum : {v : Point} {d e : Direction} {a : Point} (n : ArePointed d e) (c : IsInCone v d e a) → IsSum d e (toward n c).x (toward n c).y
 unfolding toward
 toward_sum n c = cone_sum c
 
@@ -187,7 +189,7 @@ same_ahead r s h = go r.x r.y s.x s.y h.m h.n h.some h.other h.across h.above (m
         ⊞ scaled (var 1) (same (var 5 ⊗ var 3) (var 4 ⊗ var 1) (sym above))) refl
 
 -- directions on one line point the same way or they don't
-same_or_opposite : (r s : Direction) → bend_of r s ≡ pos 0 → PointSameWay r s ⊎ (¬ PointSameWay r s)
+pub same_or_opposite : (r s : Direction) → bend_of r s ≡ pos 0 → PointSameWay r s ⊎ (¬ PointSameWay r s)
 same_or_opposite r s z = by_sign (dot_of_ways r s) (λ h. inr (λ q. not_ahead (<ℤ_weaken h) q))
     (λ e. inr (λ q. <ℤ_apart (same_ahead r s q) (sym e))) (λ h. inl (level_same r s z h))
   where
@@ -263,7 +265,8 @@ middle_right r s h = go r.x r.y s.x s.y h
         (λ denied. denied ⊞ less (var 0 ⊗ var 3 ⊖ var 1 ⊗ var 2) (num (pos 0)) h) refl
 
 -- ---- what lies strictly within, by the kind of the sector
-within_left : {r s t : Direction} → pos 0 <ℤ bend_of r s → pos 0 <ℤ bend_of r t → pos 0 <ℤ bend_of t s → IsStrictlyWithin r s t
+-- s is to the left of r
+pub within_left : {r s t : Direction} → pos 0 <ℤ bend_of r s → pos 0 <ℤ bend_of r t → pos 0 <ℤ bend_of t s → IsStrictlyWithin r s t
 within_left h k l = record {
   left = λ _. (k, l);
   right = λ n. absurd (clash_lt n h);
@@ -271,7 +274,8 @@ within_left h k l = record {
   same = λ q _. <ℤ_apart h (sym (no_bend q));
 }
 
-within_right : {r s t : Direction} → bend_of r s <ℤ pos 0 → (pos 0 <ℤ bend_of r t) ⊎ (pos 0 <ℤ bend_of t s) → IsStrictlyWithin r s t
+-- s is to the right of r
+pub within_right : {r s t : Direction} → bend_of r s <ℤ pos 0 → (pos 0 <ℤ bend_of r t) ⊎ (pos 0 <ℤ bend_of t s) → IsStrictlyWithin r s t
 within_right h k = record {
   left = λ p. absurd (clash_lt h p);
   right = λ _. k;
@@ -279,7 +283,8 @@ within_right h k = record {
   same = λ q _. <ℤ_apart h (no_bend q);
 }
 
-within_opposite : {r s t : Direction} → bend_of r s ≡ pos 0 → ¬ PointSameWay r s → pos 0 <ℤ bend_of r t → IsStrictlyWithin r s t
+-- s is opposite to r
+pub within_opposite : {r s t : Direction} → bend_of r s ≡ pos 0 → ¬ PointSameWay r s → pos 0 <ℤ bend_of r t → IsStrictlyWithin r s t
 within_opposite z n k = record {
   left = λ p. absurd (<ℤ_apart p (sym z));
   right = λ p. absurd (<ℤ_apart p z);
@@ -287,7 +292,8 @@ within_opposite z n k = record {
   same = λ q _. n q;
 }
 
-within_whole : {r s t : Direction} → PointSameWay r s → ¬ PointSameWay r t → IsStrictlyWithin r s t
+-- s points r's way
+pub within_whole : {r s t : Direction} → PointSameWay r s → ¬ PointSameWay r t → IsStrictlyWithin r s t
 within_whole same n = record {
   left = λ p. absurd (<ℤ_apart p (sym (no_bend same)));
   right = λ p. absurd (<ℤ_apart p (no_bend same));
@@ -295,53 +301,63 @@ within_whole same n = record {
   same = λ _. n;
 }
 
--- ---- the germ in a sector
-module _ (area : Area) (shaped : IsAreaShaped area) (v : Point) (r s : Direction) (free : HasNoEdgeWithin area v r s) where
-  -- along two directions that each have the same germ as a third
-  by_way_of : (m d e : Direction) → HaveOneGerm area v d m → HaveOneGerm area v e m → HaveOneGerm area v d e
-  by_way_of m d e from_d from_e g h is_g is_h = let k = germ_exists area shaped v m in from_d g k.germ is_g k.is
-      ∙ sym (from_e h k.germ is_h k.is)
-
-  narrow_sector : pos 0 <ℤ bend_of r s → (d e : Direction) → IsStrictlyWithin r s d → IsStrictlyWithin r s e → HaveOneGerm area v d e
+-- ---- from one direction of a sector to any other
+-- a relation that holds of two directions wherever all directions between them lie in the sector, and that goes by way of a third
+module _ (r s : Direction) (Alike : Direction → Direction → Type 0)
+    (step : (d e : Direction) → ArePointed d e → ((t : Direction) → IsSum d e t.x t.y → IsStrictlyWithin r s t) → Alike d e)
+    (by_way_of : (m d e : Direction) → Alike d m → Alike e m → Alike d e) where
+  narrow_sector : pos 0 <ℤ bend_of r s → (d e : Direction) → IsStrictlyWithin r s d → IsStrictlyWithin r s e → Alike d e
   narrow_sector p d e in_d in_e =
       let a = in_d.left p in
       let b = in_e.left p in
-      step area shaped v r s free d e (left_pointed r d e a.0 b.0)
-      (λ t q. within_left p (left_stays r d e a.0 b.0 t q) (right_stays s d e a.1 b.1 t q))
+      step d e (left_pointed r d e a.0 b.0) (λ t q. within_left p (left_stays r d e a.0 b.0 t q) (right_stays s d e a.1 b.1 t q))
 
-  left_half : bend_of r s <ℤ pos 0 → (d e : Direction) → pos 0 <ℤ bend_of r d → pos 0 <ℤ bend_of r e → HaveOneGerm area v d e
-  left_half n d e a b = step area shaped v r s free d e (left_pointed r d e a b) (λ t q. within_right n (inl (left_stays r d e a b t q)))
+  left_half : bend_of r s <ℤ pos 0 → (d e : Direction) → pos 0 <ℤ bend_of r d → pos 0 <ℤ bend_of r e → Alike d e
+  left_half n d e a b = step d e (left_pointed r d e a b) (λ t q. within_right n (inl (left_stays r d e a b t q)))
 
-  right_half : bend_of r s <ℤ pos 0 → (d e : Direction) → pos 0 <ℤ bend_of d s → pos 0 <ℤ bend_of e s → HaveOneGerm area v d e
-  right_half n d e a b = step area shaped v r s free d e (right_pointed s d e a b) (λ t q. within_right n (inr (right_stays s d e a b t q)))
+  right_half : bend_of r s <ℤ pos 0 → (d e : Direction) → pos 0 <ℤ bend_of d s → pos 0 <ℤ bend_of e s → Alike d e
+  right_half n d e a b = step d e (right_pointed s d e a b) (λ t q. within_right n (inr (right_stays s d e a b t q)))
 
-  to_middle : (n : bend_of r s <ℤ pos 0) (d : Direction) → IsStrictlyWithin r s d → HaveOneGerm area v d (middle r s n)
+  to_middle : (n : bend_of r s <ℤ pos 0) (d : Direction) → IsStrictlyWithin r s d → Alike d (middle r s n)
   to_middle n d in_d = go (in_d.right n)
     where
-      go : (pos 0 <ℤ bend_of r d) ⊎ (pos 0 <ℤ bend_of d s) → HaveOneGerm area v d (middle r s n)
+      go : (pos 0 <ℤ bend_of r d) ⊎ (pos 0 <ℤ bend_of d s) → Alike d (middle r s n)
       go (inl a) = left_half n d (middle r s n) a (middle_left r s n)
       go (inr a) = right_half n d (middle r s n) a (middle_right r s n)
 
-  half_turn : bend_of r s ≡ pos 0 → ¬ PointSameWay r s → (d e : Direction) → IsStrictlyWithin r s d → IsStrictlyWithin r s e
-      → HaveOneGerm area v d e
+  half_turn : bend_of r s ≡ pos 0 → ¬ PointSameWay r s → (d e : Direction) → IsStrictlyWithin r s d → IsStrictlyWithin r s e → Alike d e
   half_turn z n d e in_d in_e =
       let a = in_d.opposite z n in
       let b = in_e.opposite z n in
-      step area shaped v r s free d e (left_pointed r d e a b) (λ t q. within_opposite z n (left_stays r d e a b t q))
+      step d e (left_pointed r d e a b) (λ t q. within_opposite z n (left_stays r d e a b t q))
 
-  to_back : PointSameWay r s → (d : Direction) → IsStrictlyWithin r s d → HaveOneGerm area v d (back r)
-  to_back same d in_d = step area shaped v r s free d (back r) (back_pointed r d (in_d.same same))
-      (λ t q. within_whole same (back_stays r d (in_d.same same) t q))
+  to_back : PointSameWay r s → (d : Direction) → IsStrictlyWithin r s d → Alike d (back r)
+  to_back same d in_d =
+      step d (back r) (back_pointed r d (in_d.same same)) (λ t q. within_whole same (back_stays r d (in_d.same same) t q))
 
-  pub same_in_sector : (d e : Direction) → IsStrictlyWithin r s d → IsStrictlyWithin r s e → (g h : Loc) → IsGerm area v d g
-      → IsGerm area v e h → g ≡ h
-  same_in_sector d e in_d in_e =
+  -- holds of any two directions of the sector
+  pub alike_within : (d e : Direction) → IsStrictlyWithin r s d → IsStrictlyWithin r s e → Alike d e
+  alike_within d e in_d in_e =
       by_sign (bend_of r s) (λ n. by_way_of (middle r s n) d e (to_middle n d in_d) (to_middle n e in_e))
       (λ z. level z (same_or_opposite r s z)) (λ p. narrow_sector p d e in_d in_e)
     where
-      level : bend_of r s ≡ pos 0 → PointSameWay r s ⊎ (¬ PointSameWay r s) → HaveOneGerm area v d e
+      level : bend_of r s ≡ pos 0 → PointSameWay r s ⊎ (¬ PointSameWay r s) → Alike d e
       level z (inl same) = by_way_of (back r) d e (to_back same d in_d) (to_back same e in_e)
       level z (inr n) = half_turn z n d e in_d in_e
+
+-- ---- the germ in a sector
+-- along two directions that each have the same germ as a third
+by_way_of : (area : Area) → IsAreaShaped area → (v : Point) (m d e : Direction) → HaveOneGerm area v d m → HaveOneGerm area v e m
+    → HaveOneGerm area v d e
+by_way_of area shaped v m d e from_d from_e g h is_g is_h =
+    let k = germ_exists area shaped v m in
+    from_d g k.germ is_g k.is ∙ sym (from_e h k.germ is_h k.is)
+
+-- so the germ is one in the whole sector
+pub same_in_sector : (area : Area) → IsAreaShaped area → (v : Point) (r s : Direction) → HasNoEdgeWithin area v r s → (d e : Direction)
+    → IsStrictlyWithin r s d → IsStrictlyWithin r s e → (g h : Loc) → IsGerm area v d g → IsGerm area v e h → g ≡ h
+same_in_sector area shaped v r s free =
+    alike_within r s (HaveOneGerm area v) (step area shaped v r s free) (by_way_of area shaped v)
 
 -- ---- the germ at a point from which no edge runs
 bare_clear : (v : Point) (d e : Direction) (edges : List Seg) → is_on_edges v edges ≡ false → AreClear v d e edges
@@ -389,30 +405,36 @@ quarter_bends d z = go d.x d.y (moving d) z
         (same (var 0 ⊗ var 0 ⊖ var 1 ⊗ minus (var 1)) (num (pos 0)) e)) refl
 
 -- what is on one line with d is off the line of the quarter
-quarter_apart : (d e : Direction) → bend_of d e ≡ pos 0 → ¬ (bend_of (quarter d) e ≡ pos 0)
+quarter_apart : (d e : Direction) → bend_of d e ≡ pos 0 → ¬ (bend_of e (quarter d) ≡ pos 0)
 unfolding bend_of quarter
 quarter_apart d e z k = go d.x d.y e.x e.y (moving d) (moving e) z k
   where
     go : (x y u w : ℤ) → pos 0 <ℤ ((x *ℤ x) +ℤ (y *ℤ y)) → pos 0 <ℤ ((u *ℤ u) +ℤ (w *ℤ w)) → (x *ℤ w) -ℤ (y *ℤ u) ≡ pos 0
-        → (neg_ℤ y *ℤ w) -ℤ (x *ℤ u) ≡ pos 0 → ⊥
+        → (u *ℤ x) -ℤ (w *ℤ neg_ℤ y) ≡ pos 0 → ⊥
     go x y u w h k e f =
         impossible_by (x ∷ y ∷ u ∷ w ∷ [])
         (positive (var 0 ⊗ var 0 ⊕ var 1 ⊗ var 1) h ⊠ positive (var 2 ⊗ var 2 ⊕ var 3 ⊗ var 3) k
         ⊞ scaled (minus (var 0 ⊗ var 3 ⊖ var 1 ⊗ var 2)) (same (var 0 ⊗ var 3 ⊖ var 1 ⊗ var 2) (num (pos 0)) e)
-        ⊞ scaled (minus (minus (var 1) ⊗ var 3 ⊖ var 0 ⊗ var 2)) (same (minus (var 1) ⊗ var 3 ⊖ var 0 ⊗ var 2) (num (pos 0)) f)) refl
+        ⊞ scaled (minus (var 2 ⊗ var 0 ⊖ var 3 ⊗ minus (var 1))) (same (var 2 ⊗ var 0 ⊖ var 3 ⊗ minus (var 1)) (num (pos 0)) f)) refl
 
+-- a relation that holds of any two directions that aren't opposite, and that goes by way of a third, holds of any two
+pub alike_all : (Alike : Direction → Direction → Type 0) → ((d e : Direction) → ArePointed d e → Alike d e)
+    → ((m d e : Direction) → Alike d m → Alike e m → Alike d e) → (d e : Direction) → Alike d e
+alike_all Alike step by_way_of d e = by_sign (bend_of d e) (λ n. bent d e (<ℤ_apart n)) level (λ p. bent d e (pos_nonzero p))
+  where
+    bent : (d e : Direction) → ¬ (bend_of d e ≡ pos 0) → Alike d e
+    bent d e n = step d e (bent_pointed d e n)
+
+    level : bend_of d e ≡ pos 0 → Alike d e
+    level z = by_way_of (quarter d) d e (bent d (quarter d) (quarter_bends d)) (bent e (quarter d) (quarter_apart d e z))
+
+-- so the germ is one along all directions where no edge runs from v
 pub same_where_clear : (area : Area) → IsAreaShaped area → (v : Point)
     → ((d e : Direction) → ArePointed d e → AreClear v d e (edges_of_rings (rings_of area))) → (d e : Direction) (g h : Loc)
     → IsGerm area v d g → IsGerm area v e h → g ≡ h
-same_where_clear area shaped v clear d e = by_sign (bend_of d e) (λ n. bent d e (<ℤ_apart n)) level (λ p. bent d e (pos_nonzero p))
-  where
-    bent : (d e : Direction) → ¬ (bend_of d e ≡ pos 0) → HaveOneGerm area v d e
-    bent d e n = let pointed = bent_pointed d e n in germ_same area shaped v d e (cone_pointed v pointed) (clear d e pointed)
-
-    level : bend_of d e ≡ pos 0 → HaveOneGerm area v d e
-    level z g h is_g is_h =
-        let k = germ_exists area shaped v (quarter d) in
-        bent d (quarter d) (quarter_bends d) g k.germ is_g k.is ∙ bent (quarter d) e (quarter_apart d e z) k.germ h k.is is_h
+same_where_clear area shaped v clear =
+    alike_all (HaveOneGerm area v) (λ d e pointed. germ_same area shaped v d e (cone_pointed v pointed) (clear d e pointed))
+    (by_way_of area shaped v)
 
 pub same_off_edges : (area : Area) → IsAreaShaped area → (v : Point) → is_on_edges v (edges_of_rings (rings_of area)) ≡ false
     → (d e : Direction) (g h : Loc) → IsGerm area v d g → IsGerm area v e h → g ≡ h

@@ -44,10 +44,16 @@ some_way t (ray ∷ rays) (inl h) = (0, ray, omega arith, refl, h)
 some_way t (ray ∷ rays) (inr h) = let a = some_way t rays h in (suc a.0, a.1, let below = a.2 in omega (arith, below), a.3, a.4)
 
 -- ---- one more direction
--- a list in order that has one direction more
+-- a ray is one of a list
+abbrev pub IsRayIn : Dir → List Dir → Type 0
+IsRayIn x [] = ⊥
+IsRayIn x (ray ∷ rays) = (x ≡ ray) ⊎ IsRayIn x rays
+
+-- a list in order that has one direction more, and no others
 pub record HasInserted (d : Dir) (rays : List Dir) : Type 0 where
   pub list : List Dir
   pub ascending : AreAscending list
+  pub only : (x : Dir) → IsRayIn x list → (x ≡ d) ⊎ IsRayIn x rays
   pub before : (x : Dir) → compare_angles x d ≡ Less → IsBeforeAll x rays → IsBeforeAll x list
   pub has : (t : Direction) → PointSameWay t (direction_of d) → HasWay t list
   pub keeps : (t : Direction) → HasWay t rays → HasWay t list
@@ -57,6 +63,7 @@ pub inserted : (d : Dir) (rays : List Dir) → AreAscending rays → HasInserted
 inserted d [] h = record {
   list = d ∷ [];
   ascending = (tt, tt);
+  only = λ x k. k;
   before = λ x k all. (k, tt);
   has = λ t w. inl w;
   keeps = λ t w. absurd w;
@@ -67,6 +74,7 @@ inserted d (r ∷ rays) h = by_order (compare_angles d r) refl (inserted d rays 
     by_order Less e rest = record {
       list = d ∷ r ∷ rays;
       ascending = ((e, before_all d r e rays h.0), h);
+      only = λ x k. k;
       before = λ x k all. (k, all);
       has = λ t w. inl w;
       keeps = λ t w. inr w;
@@ -74,6 +82,7 @@ inserted d (r ∷ rays) h = by_order (compare_angles d r) refl (inserted d rays 
     by_order Equal e rest = record {
       list = r ∷ rays;
       ascending = h;
+      only = λ x k. inr k;
       before = λ x k all. all;
       has = λ t w. inl (joined_ways w (same_compare_angles d r e));
       keeps = λ t w. w;
@@ -81,6 +90,7 @@ inserted d (r ∷ rays) h = by_order (compare_angles d r) refl (inserted d rays 
     by_order Greater e rest = record {
       list = r ∷ rest.list;
       ascending = (rest.before r (compare_angles_total.antisymm r d ∙ ap ordering_reverse e) h.0, rest.ascending);
+      only = λ x k. from x rest k;
       before = λ x k all. (all.0, rest.before x k all.1);
       has = λ t w. inr (rest.has t w);
       keeps = λ t w. kept t w rest;
@@ -89,3 +99,11 @@ inserted d (r ∷ rays) h = by_order (compare_angles d r) refl (inserted d rays 
         kept : (t : Direction) → HasWay t (r ∷ rays) → (rest : HasInserted d rays) → HasWay t (r ∷ rest.list)
         kept t (inl w) rest = inl w
         kept t (inr w) rest = inr (rest.keeps t w)
+
+        from : (x : Dir) (rest : HasInserted d rays) → IsRayIn x (r ∷ rest.list) → (x ≡ d) ⊎ IsRayIn x (r ∷ rays)
+        from x rest (inl e) = inr (inl e)
+        from x rest (inr k) = by_case (rest.only x k)
+          where
+            by_case : (x ≡ d) ⊎ IsRayIn x rays → (x ≡ d) ⊎ IsRayIn x (r ∷ rays)
+            by_case (inl e) = inl e
+            by_case (inr k) = inr (inr k)

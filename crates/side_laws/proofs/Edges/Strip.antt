@@ -182,7 +182,8 @@ away_same_axis p pw v vw w ww n d hv e f =
     (scaled (var 5) (same (var 0 ⊗ (var 3 ⊗ var 6)) ((var 2 ⊗ var 6 ⊕ var 7 ⊗ var 3) ⊗ var 1) f)
     ⊞ scaled (var 6 ⊗ var 1) (same (var 2 ⊗ var 5) (var 4 ⊗ var 3) e)) refl)
 
-away_same : {v w : Point} {d : Direction} {n : ℕ} {p : Point} → IsSamePoint v w → IsAway v d n p → IsAway w d n p
+-- v + d/n is the same for each triple of v
+pub away_same : {v w : Point} {d : Direction} {n : ℕ} {p : Point} → IsSamePoint v w → IsAway v d n p → IsAway w d n p
 away_same {v} {w} {d} {n} {p} h away = record {
   across = away_same_axis p.x p.w v.x v.w w.x w.w (pos n) d.x v.heavy h.across away.across;
   above = away_same_axis p.y p.w v.y v.w w.y w.w (pos n) d.y v.heavy h.above away.above;

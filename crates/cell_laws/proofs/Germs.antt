@@ -1,0 +1,3 @@
+-- The pair germs of two figures.
+pub mod Along
+pub mod Sectors
