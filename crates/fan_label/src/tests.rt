@@ -11,10 +11,15 @@ use std::process::Abort;
 use std::test::Fail;
 
 const EAST: Dir = Dir { dx: 1, dy: 0 };
+
 const NORTH: Dir = Dir { dx: 0, dy: 1 };
+
 const WEST: Dir = Dir { dx: -1, dy: 0 };
+
 const SOUTH: Dir = Dir { dx: 0, dy: -1 };
+
 const NORTHEAST: Dir = Dir { dx: 2, dy: 1 };
+
 const SOUTHEAST: Dir = Dir { dx: 2, dy: -1 };
 
 /// The parts of A's plane, outside B.
@@ -22,10 +27,12 @@ const INTERIOR: Pair = Pair {
     a: Loc::Interior,
     b: Loc::Exterior,
 };
+
 const BOUNDARY: Pair = Pair {
     a: Loc::Boundary,
     b: Loc::Exterior,
 };
+
 const EXTERIOR: Pair = Pair {
     a: Loc::Exterior,
     b: Loc::Exterior,
