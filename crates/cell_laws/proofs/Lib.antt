@@ -1,3 +1,5 @@
 pub mod Free
 pub mod Directions
 pub mod Germs
+pub mod Samples
+pub mod Cells

@@ -1,6 +1,6 @@
 -- At each point the edge directions of two figures are some list, and each direction is one of them or lies in a sector.
-use Rattle.std.proofs.Common.{◌≡◌, ◌⊎◌, inl, inr, ℕ, zero, suc, ◌<◌, ℤ, pos, ◌-ℤ◌, ◌*ℤ◌, Bool, true, false, List, [], ◌∷◌, ap, refl, sym, ◌∙◌, subst}
-use Rattle.std.proofs.Common.{arith}
+use Rattle.std.proofs.Common.{◌≡◌, ◌⊎◌, inl, inr, ℕ, zero, suc, ◌<◌, ℤ, pos, ◌-ℤ◌, ◌*ℤ◌, Bool, true, false, List, []}
+use Rattle.std.proofs.Common.{◌∷◌, ap, refl, sym, ◌∙◌, subst, arith}
 use Rattle.std.specs.List.{All, AllByRecursion}
 use Rattle.std.proofs.lemmas.Bool.{true≢false}
 use Rattle.std.proofs.lemmas.List.Elements.{All-head, All-tail, All-append, All-map, All-from_recursion}
@@ -26,7 +26,7 @@ use Rattle.plane_laws.proofs.Directions.Angles.{joined_ways}
 use Rattle.plane_laws.proofs.Points.Same.{same_sym, same_trans}
 use Rattle.plane_laws.proofs.Segments.Mixes.{segment_flip}
 use Rattle.plane_laws.proofs.Segments.On.{on_segment_of_same}
-use Rattle.figure_laws.proofs.Edges.Limits.{IsProper, IsOwnedProper, proper_figure}
+use Rattle.figure_laws.proofs.Edges.Limits.{IsProper, proper_figure}
 use Rattle.figure_laws.proofs.Lists.Places.{some_same, all_at}
 use Rattle.ring_laws.proofs.Germs.Edges.{on_true}
 use Rattle.germ_laws.proofs.Rays.Around.{Around, on_ray, in_sector, around}

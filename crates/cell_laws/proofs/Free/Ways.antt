@@ -1,5 +1,5 @@
 -- Between two directions where no edge runs from a point, all near points are free.
-use Rattle.std.proofs.Common.{◌≡◌, inl, inr, ℕ, ◌+◌, ◌<◌, arith}
+use Rattle.std.proofs.Common.{inl, inr, ℕ, ◌+◌, ◌<◌, arith}
 use Rattle.plane_laws.specs.Plane.{Point, IsOnSegment}
 use Rattle.plane_laws.specs.Directions.{Direction}
 use Rattle.plane_laws.specs.Along.{IsAway, IsInCone}

@@ -7,7 +7,7 @@ use Rattle.whole_algebra.proofs.Certificates.{same, same_from, scaled, ◌⊞◌
 use Rattle.whole_algebra.proofs.Signs.{pos-*-pos, pos_nonzero, zero_factor}
 use Rattle.im_matrix.proofs.Laws.{same_cell?}
 use Rattle.im_matrix.specs.declared.Cell.{Cell}
-use Rattle.plane_laws.specs.Plane.{Point, IsSamePoint, IsOnSegment, rise, shift}
+use Rattle.plane_laws.specs.Plane.{Point, IsSamePoint, rise, shift}
 use Rattle.plane_laws.specs.Directions.{Direction, PointSameWay}
 use Rattle.plane_laws.specs.Along.{IsAway, IsInCone}
 use Rattle.point_set.specs.declared.dim_loc.DimLoc.{DimLoc}

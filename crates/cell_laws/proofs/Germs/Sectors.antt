@@ -1,5 +1,5 @@
 -- The law of a sector: the pair germ is the same along all its directions, and its cell holds a triangle.
-use Rattle.std.proofs.Common.{◌≡◌, inl, inr, ℕ, suc, ◌+◌, ◌<◌, List, [], ◌∷◌, arith}
+use Rattle.std.proofs.Common.{inl, inr, ℕ, suc, ◌+◌, List, [], ◌∷◌, arith}
 use Rattle.im_matrix.specs.declared.Cell.{Cell}
 use Rattle.plane_laws.specs.Plane.{Point}
 use Rattle.plane_laws.specs.Directions.{Direction, IsStrictlyWithin}
