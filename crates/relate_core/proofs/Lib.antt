@@ -1,0 +1,5 @@
+mod Answered
+mod Contributions
+mod Entries
+mod Taking
+mod Visits

@@ -16,11 +16,13 @@ use Rattle.plane_exact.specs.declared.dir.Dir.{Dir}
 use Rattle.point_set.specs.declared.figure.Figure.{Figure}
 use Rattle.point_set.specs.declared.rule.Rule.{Rule}
 use Rattle.point_set.specs.Germ.{IsPairGerm}
+use Rattle.point_set.specs.Nodes.{segs_of_both, AreEdgeDirections}
 use Rattle.point_set.specs.Relation.{IsInCell}
 use Rattle.point_set.specs.Samples.{IsSampleAt, IsSample}
 use Rattle.point_set.specs.Sectors.{IsInSector, sectors_of}
 use Rattle.point_set.specs.Validity.{IsAtPlace}
 use Rattle.point_set.specs.Visible.{AreValid}
+use Rattle.figure_laws.proofs.Points.Kinds.{one_part}
 use Rattle.figure_laws.proofs.Lists.Search.{any_left, any_right}
 use Rattle.figure_laws.proofs.Lists.Places.{some_same}
 use Rattle.germ_laws.proofs.Rays.Places.{HasItem, item_at}
@@ -31,6 +33,7 @@ use Rattle.node_table.specs.declared.entry.Entry.{Entry}
 use Rattle.topo_pred.specs.declared.Progress.{Progress}
 use Rattle.relate_core.specs.Tables.{IsListed}
 use Rattle.relate_core.specs.Taking.{HasTakenIn, HasAllSections, IsOne, IsSampleOf}
+use Rattle.relate_core.proofs.Contributions.{sample_along, along_sample, sample_within, within_sample}
 use Rattle.relate_core.proofs.Entries.{listed_first}
 use Rattle.relate_core.proofs.Taking.{taken_alike, taken_together, taken_nothing}
 
@@ -93,6 +96,7 @@ module _ (a b : Figure) (rule : Rule) (v : Point) (rays : List Dir) where
     pub i : ℕ
     pub e : Direction
     pub before : i < n
+    pub below : i < sectors_of rays
     pub within : IsInSector rays i e
     pub germ : IsPairGerm a b rule v e c
 
@@ -116,7 +120,15 @@ module _ (a b : Figure) (rule : Rule) (v : Point) (rays : List Dir) where
       earlier : (e : Cell) (d : Dim) → IsWithinBefore n e d → IsWithinBefore (n + 1) e d
       earlier e d x =
           let before = x.before in
-          record { dim = x.dim; i = x.i; e = x.e; before = omega (arith, before); within = x.within; germ = x.germ }
+          record {
+            dim = x.dim;
+            i = x.i;
+            e = x.e;
+            before = omega (arith, before);
+            below = x.below;
+            within = x.within;
+            germ = x.germ;
+          }
 
       here : (e : Cell) (d : Dim) → IsOne c Two e d → IsWithinBefore (n + 1) e d
       here e d x = record {
@@ -124,6 +136,7 @@ module _ (a b : Figure) (rule : Rule) (v : Point) (rays : List Dir) where
         i = n;
         e = middle.m;
         before = omega arith;
+        below = below;
         within = within;
         germ = subst (λ z. IsPairGerm a b rule v middle.m z) (sym x.0) (germ middle.m within);
       }
@@ -132,36 +145,91 @@ module _ (a b : Figure) (rule : Rule) (v : Point) (rays : List Dir) where
       either e d x = by_place (cases_lt x.i n)
         where
           by_place : (x.i < n) ⊎ (n ≤ x.i) → IsWithinBefore n e d ⊎ IsOne c Two e d
-          by_place (inl less) = inl (record { dim = x.dim; i = x.i; e = x.e; before = less; within = x.within; germ = x.germ })
+          by_place (inl less) = inl (record {
+            dim = x.dim;
+            i = x.i;
+            e = x.e;
+            before = less;
+            below = x.below;
+            within = x.within;
+            germ = x.germ;
+          })
           by_place (inr most) =
               let before = x.before in
               let same : x.i ≡ n = omega (arith, before, most) in
               let there = subst (λ j. IsInSector rays j x.e) same x.within in
               inr (pair_germ_one a b rule v x.e e c x.germ (germ x.e there), x.dim)
 
+-- ---- all rays and all sectors of a node
+module _ (a b : Figure) (valid : AreValid a b) (rule : Rule) (v : Point) (rays : List Dir)
+    (are : AreEdgeDirections v (segs_of_both a b) rays) where
+  -- past the last ray all samples of dimension One at the node have been taken in
+  pub rays_all : (n : ℕ) → length rays ≤ n → (p q : Progress) → HasTakenIn (IsAlongBefore a b rule v rays n) p q
+      → HasTakenIn (IsSampleOf One a b rule v) p q
+  rays_all n all p q h = taken_alike (IsAlongBefore a b rule v rays n) (IsSampleOf One a b rule v) sample along p q h
+    where
+      sample : (c : Cell) (d : Dim) → IsAlongBefore a b rule v rays n c d → IsSampleOf One a b rule v c d
+      sample c d x =
+          (x.dim, sample_along a b valid rule v rays are c (record { i = x.i; ray = x.ray; ray_is = x.ray_is; germ = x.germ }))
+
+      along : (c : Cell) (d : Dim) → IsSampleOf One a b rule v c d → IsAlongBefore a b rule v rays n c d
+      along c d x =
+          let k = along_sample a b valid rule v rays are c x.1 in
+          let below = slice_get_within rays k.i k.ray k.ray_is in
+          record { dim = x.0; i = k.i; ray = k.ray; before = omega (arith, below, all); ray_is = k.ray_is; germ = k.germ }
+
+  -- past the last sector all of dimension Two
+  pub sectors_all : (n : ℕ) → sectors_of rays ≤ n → (p q : Progress) → HasTakenIn (IsWithinBefore a b rule v rays n) p q
+      → HasTakenIn (IsSampleOf Two a b rule v) p q
+  sectors_all n all p q h = taken_alike (IsWithinBefore a b rule v rays n) (IsSampleOf Two a b rule v) sample within p q h
+    where
+      sample : (c : Cell) (d : Dim) → IsWithinBefore a b rule v rays n c d → IsSampleOf Two a b rule v c d
+      sample c d x = (
+        x.dim,
+        sample_within a b valid rule v rays are c (record { i = x.i; below = x.below; d = x.e; within = x.within; germ = x.germ }),
+      )
+
+      within : (c : Cell) (d : Dim) → IsSampleOf Two a b rule v c d → IsWithinBefore a b rule v rays n c d
+      within c d x =
+          let k = within_sample a b valid rule v rays are c x.1 in
+          let below = k.below in
+          record {
+            dim = x.0;
+            i = k.i;
+            e = k.d;
+            before = omega (arith, below, all);
+            below = k.below;
+            within = k.within;
+            germ = k.germ;
+          }
+
 -- ---- the three kinds of samples at a node
+-- dimension Zero of the node's own cell, or a sample along an edge direction
+abbrev IsHereOrAlong : Figure → Figure → Rule → Point → Cell → Cell → Dim → Type 0
+IsHereOrAlong a b rule v here = λ c d. IsOne here Zero c d ⊎ IsSampleOf One a b rule v c d
+
 -- after the node itself, its rays and its sectors all samples at it have been taken in
 pub taken_at : (a b : Figure) (rule : Rule) (v : Point) (here : Cell) → IsInCell a b rule here v → (p q r s : Progress)
-    → ((c : Cell) → IsInCell a b rule c v → c ≡ here) → HasTakenIn (IsOne here Zero) p q → HasTakenIn (IsSampleOf One a b rule v) q r
-    → HasTakenIn (IsSampleOf Two a b rule v) r s → HasTakenIn (IsSampleAt a b rule v) p s
-taken_at a b rule v here held p q r s alone h k l =
-    taken_together Below (IsSampleOf Two a b rule v) (IsSampleAt a b rule v) below_is two either p r s
-    (taken_together (IsOne here Zero) (IsSampleOf One a b rule v) Below (λ c d x. inl x) (λ c d x. inr x) (λ c d x. x) p q r h k) l
+    → HasTakenIn (IsOne here Zero) p q → HasTakenIn (IsSampleOf One a b rule v) q r → HasTakenIn (IsSampleOf Two a b rule v) r s
+    → HasTakenIn (IsSampleAt a b rule v) p s
+taken_at a b rule v here held p q r s h k l =
+    taken_together (IsHereOrAlong a b rule v here) (IsSampleOf Two a b rule v) (IsSampleAt a b rule v) below_is two either p r s
+    (taken_together (IsOne here Zero) (IsSampleOf One a b rule v) (IsHereOrAlong a b rule v here) (λ c d x. inl x) (λ c d x. inr x) (λ c d x. x) p q r h k) l
   where
-    abbrev Below : Cell → Dim → Type 0
-    Below c d = IsOne here Zero c d ⊎ IsSampleOf One a b rule v c d
+    alone : (c : Cell) → IsInCell a b rule c v → c ≡ here
+    alone c x = λ i. record { a = one_part x.in_a held.in_a i; b = one_part x.in_b held.in_b i }
 
     zero_is : (c : Cell) → c ≡ here → IsInCell a b rule c v
     zero_is c e = subst (λ z. IsInCell a b rule z v) (sym e) held
 
-    below_is : (c : Cell) (d : Dim) → Below c d → IsSampleAt a b rule v c d
+    below_is : (c : Cell) (d : Dim) → IsHereOrAlong a b rule v here c d → IsSampleAt a b rule v c d
     below_is c d (inl x) = subst (λ z. IsSampleAt a b rule v c z) (sym x.1) (zero_is c x.0)
     below_is c d (inr x) = subst (λ z. IsSampleAt a b rule v c z) (sym x.0) x.1
 
     two : (c : Cell) (d : Dim) → IsSampleOf Two a b rule v c d → IsSampleAt a b rule v c d
     two c d x = subst (λ z. IsSampleAt a b rule v c z) (sym x.0) x.1
 
-    either : (c : Cell) (d : Dim) → IsSampleAt a b rule v c d → Below c d ⊎ IsSampleOf Two a b rule v c d
+    either : (c : Cell) (d : Dim) → IsSampleAt a b rule v c d → IsHereOrAlong a b rule v here c d ⊎ IsSampleOf Two a b rule v c d
     either c Empty x = absurd x
     either c Zero x = inl (inl (alone c x, refl))
     either c One x = inl (inr (refl, x))
@@ -195,7 +263,7 @@ module _ (a b : Figure) (valid : AreValid a b) (rule : Rule) where
   pub visited_none : (old : List Entry) (p : Progress) → All (HasAllSections a b) old → HasVisited a b rule old old p p
   visited_none old p sections = record {
     visited = [];
-    count = refl;
+    count = omega arith;
     parts = λ v h. inr h;
     before = λ v h. absurd (listed_none v h);
     rest = λ v h. h;

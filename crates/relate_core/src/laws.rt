@@ -2,3 +2,4 @@
 
 pub use crate::filling::fill;
 pub use crate::node_sections::sections_at;
+pub use crate::samples::take_in_all;

@@ -1,4 +1,5 @@
 ghost use Rattle.std.specs.Prelude.{◌≡◌, ◌+◌, ◌≤◌, OnOk, All, length};
+ghost use Rattle.im_matrix.specs.Cells.{cell};
 ghost use Rattle.im_matrix.specs.declared.Dim.TheVariants as dim;
 ghost use Rattle.plane_laws.specs.Plane.{Point};
 ghost use Rattle.plane_exact.specs.NodePoints.{point_at};
@@ -6,6 +7,7 @@ ghost use Rattle.point_set.specs.Samples.{IsSample, IsSampleAt};
 ghost use Rattle.point_set.specs.Visible.{AreValid};
 ghost use Rattle.point_set.specs.declared.figure.Figure.{Figure};
 ghost use Rattle.point_set.specs.declared.rule.Rule.{Rule};
+ghost use Rattle.fan_order.specs.Rays.{AreRaysOf};
 ghost use Rattle.fan_label.specs.Seen.{AreSeenAt};
 ghost use Rattle.relate_core.specs.Tables.{IsListed};
 ghost use Rattle.relate_core.specs.Taking.{HasTakenIn, HasAllSections, IsOne, IsSampleOf};
@@ -50,7 +52,7 @@ pub fn take_in_all<A: Target, B: Target>(
 }
 
 /// A law, with nothing to run: the figures of targets are valid.
-fn are_valid<A: Target, B: Target>(a: &A, b: &B)
+pub(crate) fn are_valid<A: Target, B: Target>(a: &A, b: &B)
     ensures valid { AreValid (A.figure a.now) (B.figure b.now) }
 {
     a.valid().figure();
@@ -90,6 +92,7 @@ fn take_in_node<A: Target, B: Target>(
 
 /// Takes in the samples along the rays of a node.
 fn take_in_rays(progress: &mut Progress, fan: &Fan, at_a: DimLoc, at_b: DimLoc)
+    requires rays { AreRaysOf fan.now.sections fan.now.rays }
     ensures taken { (a b : Figure) (rule : Rule) (v : Point) → AreSeenAt a b rule v at_a at_b fan.now.sections
         → HasTakenIn (IsSampleOf dim.One a b rule v) progress.old progress.new }
 {
@@ -100,6 +103,7 @@ fn take_in_rays(progress: &mut Progress, fan: &Fan, at_a: DimLoc, at_b: DimLoc)
 
 /// Takes in the samples in the sectors of a node.
 fn take_in_sectors(progress: &mut Progress, fan: &Fan, at_a: DimLoc, at_b: DimLoc)
+    requires rays { AreRaysOf fan.now.sections fan.now.rays }
     ensures taken { (a b : Figure) (rule : Rule) (v : Point) → AreSeenAt a b rule v at_a at_b fan.now.sections
         → HasTakenIn (IsSampleOf dim.Two a b rule v) progress.old progress.new }
 {
@@ -119,8 +123,7 @@ fn take_in_cell(progress: &mut Progress, c: Cell, d: Dim)
 
 /// The cell of a pair of parts.
 fn cell_of(pair: Pair) -> Cell
-    ensures a { result.a ≡ pair.a }
-    ensures b { result.b ≡ pair.b }
+    ensures cell { result ≡ cell pair.a pair.b }
 {
     Cell {
         a: pair.a,

@@ -1,0 +1,4 @@
+use Rattle.relate_core.proofs.evaluation.evaluate.Goals as goal
+
+pub returns : goal.returns
+returns g c = ?
