@@ -1,5 +1,5 @@
 ghost use Rattle.std.specs.Prelude.{◌≡◌, IfOk};
-ghost use Rattle.topo_pred.specs.declared.Query.TheVariants as query;
+ghost use Rattle.topo_pred.specs.declared.Query.TheVariants.{Relate};
 ghost use Rattle.relate_core.specs.Answers.{IsValueOnSamples, IsSampleMatrixItself, IsAnswerTo};
 
 use crate::filling::fill;
@@ -22,7 +22,7 @@ pub fn evaluate<A: Target, B: Target>(
 ) -> Result<Answer, NoMemory>
     ensures points { IfOk result (IsAnswerTo query (A.figure a.old) (B.figure b.old) rule) }
     ensures samples { IfOk result (IsValueOnSamples (A.figure a.old) (B.figure b.old) rule query) }
-    ensures matrix { IfOk result (λ answer. query ≡ query.Relate → IsSampleMatrixItself (A.figure a.old) (B.figure b.old) rule answer) }
+    ensures matrix { IfOk result (λ answer. query ≡ Relate → IsSampleMatrixItself (A.figure a.old) (B.figure b.old) rule answer) }
     ensures figure_a { A.figure a.new ≡ A.figure a.old }
     ensures figure_b { B.figure b.new ≡ B.figure b.old }
 {
