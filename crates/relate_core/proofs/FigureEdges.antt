@@ -1,6 +1,6 @@
 -- The edges of a figure by their places: each has two different ends within the limit, and meets the box that holds every position.
 use Rattle.std.proofs.Common.{◌≡◌, ◌⊎◌, inl, inr, ℕ, zero, suc, ℤ, pos, neg_ℤ, ◌≤ℤ◌, ◌+◌, ◌<◌, ◌≤◌, List, [], ◌∷◌, ◌++◌, map, length, get_or, ap, refl, sym, ◌∙◌, subst, arith}
-use lib.IntN.{*ℤ-one}
+use lib.IntN.{*ℤ-one, one}
 use Rattle.std.specs.Option.{option_map}
 use Rattle.std.specs.List.{All}
 use Rattle.std.specs.Int.{int_max, int_min}
@@ -109,6 +109,7 @@ pub record IsEverywhere (w : Window) : Type 0 where
   pub top : pos limit ≤ℤ w.high_y
 
 holds_position : (w : Window) → IsEverywhere w → (p : Pt) → IsInLimit p → IsInWindow w (point_of p)
+unfolding one
 holds_position w h p l = record {
   left = subst (λ (z : ℤ). z ≤ℤ p.x) (sym (*ℤ-one w.low_x)) (≤ℤ_trans h.left l.left);
   right = subst (λ (z : ℤ). p.x ≤ℤ z) (sym (*ℤ-one w.high_x)) (≤ℤ_trans l.right h.right);

@@ -1,17 +1,12 @@
 -- The positions of a figure: each position of a way is its first one or an end of one of its edges, and each ring of a valid figure
 -- has an edge.
-use Rattle.std.proofs.Common.{◌≡◌, ◌⊎◌, inl, inr, ℕ, zero, suc, Bool, true, false, ◌||◌, List, [], ◌∷◌, ◌++◌, refl, sym, ◌∙◌, subst}
-use Rattle.std.proofs.lemmas.Bool.{true≢false, or_left, or_right}
+use Rattle.std.proofs.Common.{◌≡◌, ◌⊎◌, inl, inr, ℕ, zero, suc, Bool, true, false, List, [], ◌∷◌, ◌++◌, refl, sym, subst}
 use Rattle.std.specs.List.{All}
 use Rattle.std.proofs.lemmas.List.Elements.{All-cons, All-nil}
-use Rattle.plane_laws.proofs.Points.Same.{same_sym, same_trans, Decides-is_same_point}
-use Rattle.plane_laws.specs.Plane.{Point, IsSamePoint}
-use Rattle.plane_exact.specs.Places.{point_of}
 use Rattle.plane_exact.specs.declared.point.Pt.{Pt}
 use Rattle.plane_exact.specs.declared.point.Seg.{Seg}
 use Rattle.point_set.specs.declared.figure.Area.{Area}
 use Rattle.point_set.specs.declared.figure.Figure.{Figure}
-use Rattle.point_set.specs.Lines.{is_at, is_at_some}
 use Rattle.point_set.specs.Location.{rings_of, edges_of_rings}
 use Rattle.point_set.specs.Nodes.{positions_of_ways, rings_of_areas, all_positions, segs_of}
 use Rattle.point_set.specs.Rings.{is_same_position, edge_before, edges_after, edges_of}
@@ -144,7 +139,3 @@ line_position f k way p IsSo is first h =
 -- as a point of the figure is
 pub point_position : (f : Figure) (IsSo : Pt → Type 0) → SomeItem IsSo f.points → SomeItem IsSo (all_positions f)
 point_position f IsSo h = some_left IsSo f.points (positions_of_ways f.lines ++ positions_of_ways (rings_of_areas f.areas)) h
-
--- and both ends of an edge of the figure are
-module _ (IsSo : Pt → Type 0) (f : Figure) (h : Each IsSo (all_positions f)) where
-  -- (that what holds of all positions holds of the ends stands in the laws of nodes)
