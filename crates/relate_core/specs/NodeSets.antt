@@ -57,13 +57,13 @@ abbrev pub CrossesSome : List Seg → List Seg → Point → Type 0
 CrossesSome edges others v = IsOfSome (λ e. CrossesOne e others) edges v
 
 -- A segment has two different ends within the limit, as the edges of a figure have.
-pub record IsEdge (e : Seg) : Type 0 where
+pub record HasTwoEnds (e : Seg) : Type 0 where
   pub first : IsInLimit e.a
   pub second : IsInLimit e.b
   pub apart : ¬ (e.a ≡ e.b)
 
 -- These are the edges of a figure.
 pub record AreEdgesOf (f : Figure) (edges : List Seg) : Type 0 where
-  pub edges_are : All IsEdge edges
+  pub two_ends : All HasTwoEnds edges
   pub only : (place : ℕ) (e : Seg) → IsAtPlace edges place e → (i : ℕ) × IsAtPlace (segs_of f) i e
   pub whole : (place : ℕ) (e : Seg) → IsAtPlace (segs_of f) place e → (i : ℕ) × IsAtPlace edges i e

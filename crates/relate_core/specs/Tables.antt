@@ -1,5 +1,5 @@
 -- Tables of the nodes of two figures, each with the sections of both figures at it.
-use Rattle.std.specs.Prelude.{◌≡◌, ℕ, zero, suc, Bool, true, false, List, [], ◌∷◌, ◌++◌, length}
+use Rattle.std.specs.Prelude.{◌≡◌, Bool, true, false, List, [], ◌∷◌, ◌++◌}
 use Rattle.std.specs.List.{All, Any}
 use Rattle.im_matrix.specs.declared.Which.{Which}
 use Rattle.im_matrix.specs.declared.Which.TheVariants.{A, B}
@@ -9,7 +9,7 @@ use Rattle.plane_exact.specs.Places.{point_of}
 use Rattle.plane_exact.specs.declared.node.Node.{Node}
 use Rattle.point_set.specs.declared.figure.Figure.{Figure}
 use Rattle.point_set.specs.Edges.{OwnedEdge, edges_of_figure, far_end}
-use Rattle.point_set.specs.Validity.{IsAtPlace, IsOnEdge}
+use Rattle.point_set.specs.Validity.{IsOnEdge}
 use Rattle.fan_order.specs.declared.section.Section.{Section}
 use Rattle.fan_order.specs.Rays.{IsShort}
 use Rattle.fan_order.specs.Sections.{IsSectionToward, AreSectionsAt}
@@ -18,7 +18,7 @@ use Rattle.node_table.specs.declared.entry.Entry.{Entry}
 
 -- ---- sections, each once
 -- The sections at v of an edge towards one of its ends: exactly one where the edge holds v and v isn't that end, and else none.
-pub record AreTowardEnd (which : Which) (f : Figure) (edge : OwnedEdge) (v : Point) (forward : Bool) (sections : List Section) : Type 0 where
+pub record AreTowardEnd (which : Which) (f : Figure) (v : Point) (edge : OwnedEdge) (forward : Bool) (sections : List Section) : Type 0 where
   pub one :
       IsOnEdge edge.seg v → ¬ IsSamePoint (point_of (far_end forward edge.seg)) v
       → (s : Section) × (sections ≡ s ∷ []) × IsSectionToward which f edge forward s
@@ -30,19 +30,18 @@ pub record AreOfEdge (which : Which) (f : Figure) (v : Point) (edge : OwnedEdge)
   pub ahead : List Section
   pub back : List Section
   pub parts : sections ≡ ahead ++ back
-  pub are_ahead : AreTowardEnd which f edge v true ahead
-  pub are_back : AreTowardEnd which f edge v false back
+  pub are_ahead : AreTowardEnd which f v edge true ahead
+  pub are_back : AreTowardEnd which f v edge false back
 
--- The sections at v of the edges of a figure, edge by edge, up to a place in the list of its edges.
-abbrev pub AreOfEdgesBefore : Which → Figure → Point → ℕ → List Section → Type 0
-AreOfEdgesBefore which f v zero sections = sections ≡ []
-AreOfEdgesBefore which f v (suc place) sections =
-    (earlier last : List Section) × (sections ≡ earlier ++ last) × AreOfEdgesBefore which f v place earlier
-    × ((edge : OwnedEdge) → IsAtPlace (edges_of_figure f) place edge → AreOfEdge which f v edge last)
+-- The sections at v of some edges of a figure: those of the first, and then those of the others.
+abbrev pub AreOfEdges : Which → Figure → Point → List OwnedEdge → List Section → Type 0
+AreOfEdges which f v [] sections = sections ≡ []
+AreOfEdges which f v (edge ∷ edges) sections =
+    (first rest : List Section) × (sections ≡ first ++ rest) × AreOfEdge which f v edge first × AreOfEdges which f v edges rest
 
--- The sections at v of all edges of a figure: one for each edge that holds v and each end of it that isn't v.
+-- The sections of a figure at v: exactly one for each edge that holds v and each end of it that isn't v.
 abbrev pub AreEachOnce : Which → Figure → Point → List Section → Type 0
-AreEachOnce which f v sections = AreOfEdgesBefore which f v (length (edges_of_figure f)) sections
+AreEachOnce which f v sections = AreOfEdges which f v (edges_of_figure f) sections
 
 -- A list has grown by the sections of a figure at v.
 pub record AddsSectionsAt (which : Which) (f : Figure) (v : Point) (old new : List Section) : Type 0 where
@@ -65,7 +64,6 @@ IsListed entries v = Any (λ e. IsSamePoint v (point_at e.node)) entries
 
 -- The nodes of the entries are exactly the points of a set.
 pub record AreNodes (Nodes : Point → Type 0) (entries : List Entry) : Type 0 where
-  pub in_order : AreInOrder entries
   pub only : All (λ e. Nodes (point_at e.node)) entries
   pub whole : (v : Point) → Nodes v → IsListed entries v
 
@@ -78,10 +76,11 @@ pub record HasItsSections (a b : Figure) (e : Entry) : Type 0 where
 
 -- The entries are exactly the points of a set in their order, each once and with its sections of two figures.
 pub record IsTableOf (Nodes : Point → Type 0) (a b : Figure) (entries : List Entry) : Type 0 where
+  pub in_order : AreInOrder entries
   pub nodes : AreNodes Nodes entries
   pub sections : All (HasItsSections a b) entries
 
--- Entries have got one with the sections of two figures at its node.
+-- Entries have got a node with the sections of two figures at it.
 pub record AddsEntryOf (a b : Figure) (n : Node) (old new : List Entry) : Type 0 where
   pub sections : List Section
   pub has_its : HasItsSections a b (entry n sections)

@@ -1,7 +1,6 @@
 ghost use Rattle.std.specs.Prelude.{◌≡◌, OnOk, IfOk};
-ghost use Rattle.plane_exact.specs.NodePoints.{point_at};
 ghost use Rattle.point_set.specs.Nodes.{IsNode};
-ghost use Rattle.node_table.specs.Tables.{with_sections};
+ghost use Rattle.node_table.specs.Tables.{with_sections, AreInOrder};
 ghost use Rattle.relate_core.specs.Tables.{IsTableOf, AddsEntryOf};
 
 use crate::node_sections::sections_at;
@@ -46,6 +45,7 @@ fn add_at<A: Target, B: Target>(
     b: &mut B,
 ) -> Result<(), NoMemory>
     ensures added { OnOk result (AddsEntryOf (A.figure a.old) (B.figure b.old) n.now table.old table.new) }
+    ensures in_order { OnOk result (AreInOrder table.new) }
     ensures figure_a { A.figure a.new ≡ A.figure a.old }
     ensures figure_b { B.figure b.new ≡ B.figure b.old }
     ensures looks_a { A.looks a.new ≡ A.looks a.old }
@@ -60,6 +60,7 @@ fn add_at<A: Target, B: Target>(
 /// Puts a node in with some sections.
 fn add_all(table: &mut NodeTable, n: &Node, sections: &[Section]) -> Result<(), NoMemory>
     ensures added { OnOk result (table.new ≡ with_sections table.old n.now sections.now) }
+    ensures in_order { OnOk result (AreInOrder table.new) }
 {
     table.add_node(*n)?;
     for section in sections {

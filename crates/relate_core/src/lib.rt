@@ -1,6 +1,8 @@
-//! The relation of two figures: their nodes with the sections of both figures' edges at them.
+//! The relation of two figures: their nodes with the sections of both figures' edges at them, and the samples there, which decide
+//! the answer to a query.
 #![tactic(auto)]
 
+mod edges;
 mod evaluation;
 mod filling;
 mod node_sections;

@@ -3,10 +3,11 @@ ghost use Rattle.plane_exact.specs.NodePoints.{point_at};
 ghost use Rattle.fan_order.specs.Rays.{IsShort};
 ghost use Rattle.relate_core.specs.Tables.{AddsSectionsAt};
 
+use crate::edges::edge_at;
 use fan_order::{SectionList, add_sections};
 use im_matrix::Which;
 use plane_exact::{NoMemory, Node, PlaceList, Window, on_segment};
-use point_set::{EdgeId, Target};
+use point_set::Target;
 use std::alloc::Global;
 
 /// Adds the sections of a figure at a node: for each edge that holds the node, one towards each end that isn't the node, and
@@ -29,7 +30,7 @@ pub fn sections_at<T: Target>(
     let mut near = PlaceList::new(alloc);
     t.edges_in(Window::round(n), &mut near)?;
     for place in near.as_slice() {
-        let edge = t.edge(EdgeId { place: *place });
+        let edge = edge_at(t, *place);
         if on_segment(edge.seg, n) {
             add_sections(out, &edge, n, which)?;
         }

@@ -1,25 +1,16 @@
 ghost use Rattle.std.specs.Prelude.{◌≡◌, OnOk, IfOk, All};
-ghost use Rattle.plane_exact.specs.Places.{IsInLimit};
-ghost use Rattle.plane_exact.specs.Windows.{IsLeastWindow};
-ghost use Rattle.plane_exact.specs.declared.point.Seg.{Seg};
-ghost use Rattle.point_set.specs.Nodes.{IsNode, segs_of};
-ghost use Rattle.point_set.specs.Shape.{IsWayInLimit};
+ghost use Rattle.point_set.specs.Nodes.{IsNode, all_positions, segs_of};
+ghost use Rattle.point_set.specs.Shape.{IsLineShaped, IsWayInLimit, IsWellShaped};
+ghost use Rattle.point_set.specs.Validity.{IsValid};
 ghost use Rattle.relate_core.specs.Tables.{AreNodes};
-ghost use Rattle.relate_core.specs.NodeSets.{AddsNodes, AreEdgesOf, IsEdge, IsAtOneOf, IsAtStart, IsAtEnd, CrossesOne, CrossesSome};
+ghost use Rattle.relate_core.specs.NodeSets.{AddsNodes, AreEdgesOf, CrossesOne, CrossesSome, HasTwoEnds, IsAtEnd, IsAtOneOf, IsAtStart};
 
+use crate::edges::{edge_at, edges_of};
 use node_table::NodeTable;
-use plane_exact::{LIMIT, NoMemory, Node, Path, PlaceList, Seg, SegList, Window};
-use point_set::{EdgeId, Paths, Target};
+use plane_exact::{NoMemory, Node, Path, PlaceList, Seg, SegList, Window};
+use point_set::{Figure, Paths, Target};
 use seg_cross::{Meet, meet};
 use std::alloc::Global;
-
-/// A box that holds every position.
-const EVERYWHERE: Window = Window {
-    low_x: -LIMIT,
-    low_y: -LIMIT,
-    high_x: LIMIT,
-    high_y: LIMIT,
-};
 
 /// The nodes of two figures, without sections: each position of both, and the only common point of each two of all their edges.
 ///
@@ -39,32 +30,29 @@ pub(crate) fn nodes_of<A: Target, B: Target>(
     let edges_a = edges_of(alloc, a)?;
     let edges_b = edges_of(alloc, b)?;
     let mut nodes = NodeTable::new(alloc);
-    add_points(&mut nodes, &a.valid().figure().points)?;
-    add_points(&mut nodes, &b.valid().figure().points)?;
-    add_starts(&mut nodes, &a.valid().figure().lines)?;
-    add_starts(&mut nodes, &b.valid().figure().lines)?;
-    add_ends(&mut nodes, &edges_a)?;
-    add_ends(&mut nodes, &edges_b)?;
+    add_positions(&mut nodes, a.valid().figure(), &edges_a)?;
+    add_positions(&mut nodes, b.valid().figure(), &edges_b)?;
     add_crossings(alloc, &mut nodes, &edges_a, a)?;
     add_crossings(alloc, &mut nodes, &edges_a, b)?;
     add_crossings(alloc, &mut nodes, &edges_b, b)?;
     Ok(nodes)
 }
 
-/// The edges of a figure.
-fn edges_of<T: Target>(alloc: Global, t: &mut T) -> Result<SegList, NoMemory>
-    ensures edges { IfOk result (AreEdgesOf (T.figure t.old)) }
-    ensures figure { T.figure t.new ≡ T.figure t.old }
-    ensures looks { T.looks t.new ≡ T.looks t.old }
+/// Puts all positions of a figure in: its points, the first position of each line, and the ends of its edges. Each position of a way
+/// is its first one or an end of one of its edges, and rings have edges.
+fn add_positions(
+    nodes: &mut NodeTable,
+    figure: &Figure,
+    edges: &SegList,
+) -> Result<(), NoMemory>
+    requires shaped { IsWellShaped figure.now }
+    requires valid { IsValid figure.now }
+    requires edges { AreEdgesOf figure.now edges.now }
+    ensures nodes { OnOk result (AddsNodes (IsAtOneOf (all_positions figure.now)) nodes.old nodes.new) }
 {
-    let mut places = PlaceList::new(alloc);
-    t.edges_in(EVERYWHERE, &mut places)?;
-    let mut edges = SegList::new(alloc);
-    for place in places.as_slice() {
-        let edge = t.edge(EdgeId { place: *place });
-        edges.push(edge.seg)?;
-    }
-    Ok(edges)
+    add_points(nodes, &figure.points)?;
+    add_starts(nodes, &figure.lines)?;
+    add_ends(nodes, edges)
 }
 
 /// Puts positions in.
@@ -80,7 +68,7 @@ fn add_points(nodes: &mut NodeTable, points: &Path) -> Result<(), NoMemory>
 
 /// Puts the first position of each line in: a line whose positions are all equal has no edge.
 fn add_starts(nodes: &mut NodeTable, lines: &Paths) -> Result<(), NoMemory>
-    requires limit { All IsWayInLimit lines.now }
+    requires shaped { All IsLineShaped lines.now }
     ensures nodes { OnOk result (AddsNodes (IsAtStart lines.now) nodes.old nodes.new) }
 {
     for line in lines.as_slice() {
@@ -93,7 +81,7 @@ fn add_starts(nodes: &mut NodeTable, lines: &Paths) -> Result<(), NoMemory>
 
 /// Puts both ends of each edge in.
 fn add_ends(nodes: &mut NodeTable, edges: &SegList) -> Result<(), NoMemory>
-    requires edges { All IsEdge edges.now }
+    requires edges { All HasTwoEnds edges.now }
     ensures nodes { OnOk result (AddsNodes (IsAtEnd edges.now) nodes.old nodes.new) }
 {
     for edge in edges.as_slice() {
@@ -110,7 +98,7 @@ fn add_crossings<T: Target>(
     edges: &SegList,
     t: &mut T,
 ) -> Result<(), NoMemory>
-    requires edges { All IsEdge edges.now }
+    requires edges { All HasTwoEnds edges.now }
     ensures nodes { OnOk result (AddsNodes (CrossesSome edges.now (segs_of (T.figure t.old))) nodes.old nodes.new) }
     ensures figure { T.figure t.new ≡ T.figure t.old }
     ensures looks { T.looks t.new ≡ T.looks t.old }
@@ -129,15 +117,14 @@ fn add_crossings_with<T: Target>(
     t: &mut T,
     near: &mut PlaceList,
 ) -> Result<(), NoMemory>
-    requires edge { IsEdge edge }
+    requires edge { HasTwoEnds edge }
     ensures nodes { OnOk result (AddsNodes (CrossesOne edge (segs_of (T.figure t.old))) nodes.old nodes.new) }
     ensures figure { T.figure t.new ≡ T.figure t.old }
     ensures looks { T.looks t.new ≡ T.looks t.old }
 {
     t.edges_in(Window::of(edge), near)?;
     for place in near.as_slice() {
-        let other = t.edge(EdgeId { place: *place });
-        if let Meet::At(n) = meet(edge, other.seg) {
+        if let Meet::At(n) = meet(edge, edge_at(t, *place).seg) {
             nodes.add_node(n)?;
         }
     }
