@@ -6,11 +6,12 @@ use Rattle.im_matrix.specs.declared.Cell.{Cell}
 use Rattle.im_matrix.specs.declared.Dim.{Dim}
 use Rattle.im_matrix.specs.declared.Dim.TheVariants.{Empty, Zero, One, Two}
 use Rattle.im_matrix.specs.declared.Matrix.{Matrix}
+use Rattle.plane_laws.specs.Plane.{Point}
 use Rattle.point_set.specs.declared.figure.Figure.{Figure}
 use Rattle.point_set.specs.declared.rule.Rule.{Rule}
 use Rattle.point_set.specs.Nodes.{IsNode}
 use Rattle.point_set.specs.Relation.{IsInCell, IsMatrixOf}
-use Rattle.point_set.specs.Samples.{IsGreatest, IsSample, IsSampleMatrix}
+use Rattle.point_set.specs.Samples.{IsGreatest, IsSample, IsMatrixOfSamples, IsSampleMatrix}
 use Rattle.point_set.specs.Visible.{AreValid}
 use Rattle.figure_laws.proofs.Sets.Dimensions.{one_dimension}
 use Rattle.cell_laws.specs.Decided.{AreDecidedBySamples}
@@ -62,6 +63,30 @@ greatest_of Is decide = by_two (decide Two) (decide One) (decide Zero)
         most Zero h = absurd (no_zero h)
         most Empty h = omega arith
 
+-- ---- two matrices of samples are one
+-- dimensions of one rank are one
+same_rank : (d e : Dim) → rank d ≤ rank e → rank e ≤ rank d → d ≡ e
+same_rank d e h k = grind arith
+
+-- a greatest dimension is no greater than another
+no_greater : (Is : Dim → Type 0) (d e : Dim) → IsGreatest Is d → IsGreatest Is e → rank d ≤ rank e
+no_greater Is Empty e g h = omega arith
+no_greater Is Zero e g h = h.most Zero (g.one (λ k. cc))
+no_greater Is One e g h = h.most One (g.one (λ k. cc))
+no_greater Is Two e g h = h.most Two (g.one (λ k. cc))
+
+-- of any two figures, and any choice of nodes
+pub one_sample_matrix :
+    (Nodes : Point → Type 0) (a b : Figure) (rule : Rule) (m n : Matrix) → IsMatrixOfSamples Nodes a b rule m
+    → IsMatrixOfSamples Nodes a b rule n → m ≡ n
+one_sample_matrix Nodes a b rule m n h k = same_cells m n one
+  where
+    one : (c : Cell) → dimension_at m c ≡ dimension_at n c
+    one c =
+        let Is : Dim → Type 0 = λ d. (d ≡ start_dimension c) ⊎ IsSample Nodes a b rule c d in
+        same_rank (dimension_at m c) (dimension_at n c) (no_greater Is (dimension_at m c) (dimension_at n c) (h c) (k c))
+        (no_greater Is (dimension_at n c) (dimension_at m c) (k c) (h c))
+
 -- ---- two figures
 module _ (a b : Figure) (valid : AreValid a b) (rule : Rule) where
   -- what a cell starts with, or a sample of it
@@ -92,9 +117,10 @@ module _ (a b : Figure) (valid : AreValid a b) (rule : Rule) where
     λ c. subst (IsGreatest (IsSeen c)) (sym (dimension_at-matrix_by (λ c. (greatest_at c).d) c)) (greatest_at c).is,
   )
 
-  -- two matrices of the two point sets are one
-  one_matrix : (m n : Matrix) → IsMatrixOf a b rule m → IsMatrixOf a b rule n → m ≡ n
-  one_matrix m n h k = same_cells m n (λ c. one_dimension (IsInCell a b rule c) (dimension_at m c) (dimension_at n c) (h c) (k c))
+-- two matrices of the two point sets are one
+one_matrix : (a b : Figure) (rule : Rule) (m n : Matrix) → IsMatrixOf a b rule m → IsMatrixOf a b rule n → m ≡ n
+one_matrix a b rule m n h k =
+    same_cells m n (λ c. one_dimension (IsInCell a b rule c) (dimension_at m c) (dimension_at n c) (h c) (k c))
 
 -- the sample matrix is that of the two point sets, and no other is the one or the other
 pub decided_by_samples : (a b : Figure) → AreValid a b → (rule : Rule) → AreDecidedBySamples a b rule
@@ -105,6 +131,6 @@ decided_by_samples a b valid rule =
       matrix = found.0;
       of_samples = found.1;
       of_points = points;
-      only_of_samples = λ m h. one_matrix a b valid rule m found.0 (samples_are_cells a b valid rule m h) points;
-      only_of_points = λ m h. one_matrix a b valid rule m found.0 h points;
+      only_of_samples = λ m h. one_sample_matrix (IsNode a b) a b rule m found.0 h found.1;
+      only_of_points = λ m h. one_matrix a b rule m found.0 h points;
     }

@@ -1,38 +1,35 @@
 -- At each point the edge directions of two figures are some list, and each direction is one of them or lies in a sector.
-use Rattle.std.proofs.Common.{◌≡◌, ◌⊎◌, inl, inr, ℕ, zero, suc, ◌<◌, ℤ, pos, ◌-ℤ◌, ◌*ℤ◌, Bool, true, false, List, []}
-use Rattle.std.proofs.Common.{◌∷◌, ap, refl, sym, ◌∙◌, subst, arith}
+use Rattle.std.proofs.Common.{◌≡◌, ◌⊎◌, inl, inr, ℕ, zero, suc, ◌<◌, Bool, true, false, List, []}
+use Rattle.std.proofs.Common.{◌∷◌, refl, sym, ◌∙◌, subst}
 use Rattle.std.specs.List.{All, AllByRecursion}
-use Rattle.std.proofs.lemmas.Bool.{true≢false}
-use Rattle.std.proofs.lemmas.List.Elements.{All-head, All-tail, All-append, All-map, All-from_recursion}
-use Rattle.whole_algebra.proofs.Laws.{linear}
-use Rattle.plane_laws.specs.Plane.{Point, IsSamePoint, IsOnSegment}
+use Rattle.std.proofs.lemmas.Bool.{true≢false, false_from_ne_true}
+use Rattle.std.proofs.lemmas.List.Elements.{All-head, All-tail, All-append, All-map, All-weaker, All-from_recursion}
+use Rattle.plane_laws.specs.Plane.{Point, IsSamePoint}
 use Rattle.plane_laws.specs.Directions.{Direction, PointSameWay}
 use Rattle.plane_laws.specs.Along.{IsInCone}
-use Rattle.plane_exact.specs.Directions.{IsWay}
 use Rattle.plane_exact.specs.Orders.{direction_of}
-use Rattle.plane_exact.specs.Places.{point_of, IsInLimit}
+use Rattle.plane_exact.specs.Places.{point_of}
 use Rattle.plane_exact.specs.declared.dir.Dir.{Dir}
-use Rattle.plane_exact.specs.declared.point.Pt.{Pt}
 use Rattle.plane_exact.specs.declared.point.Seg.{Seg}
 use Rattle.point_set.specs.declared.figure.Figure.{Figure}
-use Rattle.point_set.specs.Edges.{edges_of_figure}
+use Rattle.point_set.specs.Edges.{OwnedEdge, edges_of_figure}
 use Rattle.point_set.specs.Nodes.{segs_of, segs_of_both, RunsFrom, AreEdgeDirections}
-use Rattle.point_set.specs.Rings.{is_on_edge}
+use Rattle.point_set.specs.Rings.{is_on_edge, is_same_position}
 use Rattle.point_set.specs.Sectors.{IsInSector, IsLowest, sectors_of}
 use Rattle.point_set.specs.Shape.{IsWellShaped}
-use Rattle.point_set.specs.Validity.{IsAtPlace}
+use Rattle.point_set.specs.Validity.{IsAtPlace, IsOnEdge}
 use Rattle.point_set.specs.Visible.{AreValid}
 use Rattle.plane_laws.proofs.Directions.Angles.{joined_ways}
-use Rattle.plane_laws.proofs.Points.Same.{same_sym, same_trans}
+use Rattle.plane_laws.proofs.Points.Same.{same_sym}
 use Rattle.plane_laws.proofs.Segments.Mixes.{segment_flip}
-use Rattle.plane_laws.proofs.Segments.On.{on_segment_of_same}
-use Rattle.figure_laws.proofs.Edges.Limits.{IsProper, proper_figure}
-use Rattle.figure_laws.proofs.Lists.Places.{some_same, all_at}
+use Rattle.figure_laws.proofs.Edges.Limits.{IsOwnedProper, proper_figure}
+use Rattle.figure_laws.proofs.Lists.Places.{some_same, same_position, all_at}
 use Rattle.ring_laws.proofs.Germs.Edges.{on_true}
 use Rattle.germ_laws.proofs.Rays.Around.{Around, on_ray, in_sector, around}
 use Rattle.germ_laws.proofs.Rays.Ways.{HasRay, one_way, ray_of_any, way_cone}
 use Rattle.germ_laws.proofs.Room.Starry.{not_here}
 use Rattle.germ_laws.proofs.Room.Ways.{cone_way}
+use Rattle.kind_laws.proofs.Location.EdgeRays.{IsFit, swapped, swapped_fit, way_of}
 use Rattle.kind_laws.proofs.Location.RayLists.{HasWay, IsRayIn, AreAscending, HasInserted, inserted, ascending_pairs, some_way}
 use Rattle.meeting_laws.proofs.Ways.OneLine.{same_or_not}
 use Rattle.cell_laws.proofs.Directions.Lowest.{HasLowest, lowest_of}
@@ -105,66 +102,38 @@ more_rays Wanted More d more added back h = record {
     low x (inr k) = h.are.lowest x k
 
 -- ---- one end of an edge
--- the way from p to q, of positions that aren't the same
-way_between : (p q : Pt) → IsInLimit p → IsInLimit q → ¬ IsSamePoint (point_of p) (point_of q) → IsWay (q.x -ℤ p.x) (q.y -ℤ p.y)
-way_between p q hp hq apart =
-    let a = hp.left in
-    let b = hp.right in
-    let c = hp.bottom in
-    let d = hp.top in
-    let e = hq.left in
-    let f = hq.right in
-    let g = hq.bottom in
-    let h = hq.top in
-    record {
-      left = omega (arith, linear, b, e);
-      right = omega (arith, linear, a, f);
-      bottom = omega (arith, linear, d, g);
-      top = omega (arith, linear, c, h);
-      turned = λ z. apart (record { across = level p.x q.x z.0; above = level p.y q.y z.1 });
-    }
-  where
-    level : (x y : ℤ) → y -ℤ x ≡ pos 0 → x *ℤ pos 1 ≡ y *ℤ pos 1
-    level x y e = let same : x ≡ y = omega (arith, linear, e) in ap (λ (z : ℤ). z *ℤ pos 1) same
-
--- v is on the edge from p to q: the direction from v to q is wanted too, where there is one
-module _ (v : Point) (p q : Pt) (hp : IsInLimit p) (hq : IsInLimit q) (on : IsOnSegment (point_of p) (point_of q) v)
-    (Wanted : Direction → Type 0) where
-  -- what was wanted, and what leads to q
+-- v is on an edge: the direction from v to its second end is wanted too, where there is one
+module _ (v : Point) (e : Seg) (fit : IsFit e) (on : IsOnEdge e v) (Wanted : Direction → Type 0) where
+  -- what was wanted, and what leads to that end
   abbrev WithEnd : Direction → Type 0
-  WithEnd t = Wanted t ⊎ IsInCone v t t (point_of q)
+  WithEnd t = Wanted t ⊎ IsInCone v t t (point_of e.b)
 
-  -- v is q
-  end_here : IsSamePoint (point_of q) v → HasRaysFor Wanted → HasRaysFor WithEnd
+  -- v is the end
+  end_here : IsSamePoint (point_of e.b) v → HasRaysFor Wanted → HasRaysFor WithEnd
   end_here same = alike_rays Wanted WithEnd (λ t k. inl k) back
     where
       back : (t : Direction) → WithEnd t → Wanted t
       back t (inl k) = k
       back t (inr c) = absurd (not_here c (same_sym same))
 
-  -- v isn't q
-  end_apart : ¬ IsSamePoint (point_of q) v → HasRaysFor Wanted → HasRaysFor WithEnd
-  end_apart apart = more_rays Wanted WithEnd d (λ t k. inl k) (λ t w. inr (cone_way w ahead)) back
+  -- from elsewhere the end lies the way of the edge
+  ahead : ¬ IsSamePoint (point_of e.b) v → IsInCone v (direction_of (way_of e fit)) (direction_of (way_of e fit)) (point_of e.b)
+  unfolding way_of
+  ahead apart = way_cone e.a e.b v on apart (direction_of (way_of e fit)) refl refl
+
+  -- v isn't the end
+  end_apart : ¬ IsSamePoint (point_of e.b) v → HasRaysFor Wanted → HasRaysFor WithEnd
+  end_apart apart = more_rays Wanted WithEnd (way_of e fit) (λ t k. inl k) (λ t w. inr (cone_way w (ahead apart))) back
     where
-      d : Dir
-      d = record {
-        dx = q.x -ℤ p.x;
-        dy = q.y -ℤ p.y;
-        way = way_between p q hp hq (λ same. apart (same_trans (same_sym same) (on_segment_of_same same on)));
-      }
-
-      ahead : IsInCone v (direction_of d) (direction_of d) (point_of q)
-      ahead = way_cone p q v on apart (direction_of d) refl refl
-
-      back : (t : Direction) → WithEnd t → Wanted t ⊎ PointSameWay t (direction_of d)
+      back : (t : Direction) → WithEnd t → Wanted t ⊎ PointSameWay t (direction_of (way_of e fit))
       back t (inl k) = inl k
-      back t (inr c) = inr (one_way v t (direction_of d) (point_of q) c ahead)
+      back t (inr c) = inr (one_way v t (direction_of (way_of e fit)) (point_of e.b) c (ahead apart))
 
   -- either way
   end_rays : HasRaysFor Wanted → HasRaysFor WithEnd
-  end_rays h = by_point (same_or_not (point_of q) v)
+  end_rays h = by_point (same_or_not (point_of e.b) v)
     where
-      by_point : IsSamePoint (point_of q) v ⊎ (¬ IsSamePoint (point_of q) v) → HasRaysFor WithEnd
+      by_point : IsSamePoint (point_of e.b) v ⊎ (¬ IsSamePoint (point_of e.b) v) → HasRaysFor WithEnd
       by_point (inl same) = end_here same h
       by_point (inr apart) = end_apart apart h
 
@@ -188,8 +157,9 @@ first_run v e edges t r = go r.place r.edge r.edge_is r.holds r.leads
     go (suc place) f is on c = inl (record { place = place; edge = f; edge_is = is; holds = on; leads = c })
 
 -- the rays of the rest, and those of the first edge
-edge_rays : (v : Point) (e : Seg) (edges : List Seg) → IsProper e → HasRaysFor (RunsFrom v edges) → HasRaysFor (RunsFrom v (e ∷ edges))
-edge_rays v e edges ends h = by_test (is_on_edge v e) refl
+edge_rays : (v : Point) (e : Seg) (edges : List Seg) → IsFit e → HasRaysFor (RunsFrom v edges) → HasRaysFor (RunsFrom v (e ∷ edges))
+unfolding swapped
+edge_rays v e edges fit h = by_test (is_on_edge v e) refl
   where
     by_test : (b : Bool) → is_on_edge v e ≡ b → HasRaysFor (RunsFrom v (e ∷ edges))
     by_test false off =
@@ -200,10 +170,10 @@ edge_rays v e edges ends h = by_test (is_on_edge v e) refl
         back t (inr k) = absurd (true≢false (sym k.0 ∙ off))
     by_test true on =
         alike_rays Both (RunsFrom v (e ∷ edges)) more (λ t k. back t (first_run v e edges t k))
-        (end_rays v e.a e.b ends.first ends.second here First
-        (end_rays v e.b e.a ends.second ends.first (segment_flip here) (RunsFrom v edges) h))
+        (end_rays v e fit here First
+        (end_rays v (swapped e) (swapped_fit e fit) (segment_flip here) (RunsFrom v edges) h))
       where
-        here : IsOnSegment (point_of e.a) (point_of e.b) v
+        here : IsOnEdge e v
         here = on_true on
 
         First : Direction → Type 0
@@ -223,9 +193,9 @@ edge_rays v e edges ends h = by_test (is_on_edge v e) refl
         back t (inr (_, inr c)) = inr c
 
 -- the rays of a list of edges
-rays_at : (v : Point) (edges : List Seg) → All IsProper edges → HasRaysFor (RunsFrom v edges)
-rays_at v [] ends = no_rays (RunsFrom v []) (λ t r. let is = r.edge_is in cc)
-rays_at v (e ∷ edges) ends = edge_rays v e edges (All-head IsProper e edges ends) (rays_at v edges (All-tail IsProper e edges ends))
+rays_at : (v : Point) (edges : List Seg) → All IsFit edges → HasRaysFor (RunsFrom v edges)
+rays_at v [] fit = no_rays (RunsFrom v []) (λ t r. let is = r.edge_is in cc)
+rays_at v (e ∷ edges) fit = edge_rays v e edges (All-head IsFit e edges fit) (rays_at v edges (All-tail IsFit e edges fit))
 
 -- ---- the edge directions
 -- what holds of each ray of a list
@@ -247,9 +217,20 @@ are_directions v edges rays are = record {
   lowest = All-from_recursion IsLowest rays (each_ray IsLowest rays are.lowest);
 }
 
--- the ends of the edges of a figure are within the limit
-proper_segs : (f : Figure) → IsWellShaped f → All IsProper (segs_of f)
-proper_segs f shaped = All-map IsProper (λ edge. edge.seg) (edges_of_figure f) (proper_figure f shaped)
+-- the ends of each edge of a figure are within the limit, and differ
+fit_segs : (f : Figure) → IsWellShaped f → All IsFit (segs_of f)
+fit_segs f shaped =
+    All-map IsFit (λ edge. edge.seg) (edges_of_figure f)
+    (All-weaker IsOwnedProper (λ edge. IsFit edge.seg) fit (edges_of_figure f) (proper_figure f shaped))
+  where
+    fit : (edge : OwnedEdge) → IsOwnedProper edge → IsFit edge.seg
+    fit edge proper = record {
+      first = proper.first;
+      second = proper.second;
+      apart =
+          false_from_ne_true (is_same_position edge.seg.a edge.seg.b)
+          (λ h. proper.apart (same_position edge.seg.a edge.seg.b h));
+    }
 
 -- the edge directions of two figures at a point
 pub record HasDirections (a b : Figure) (v : Point) : Type 0 where
@@ -260,7 +241,7 @@ pub record HasDirections (a b : Figure) (v : Point) : Type 0 where
 pub directions_exist : (a b : Figure) → AreValid a b → (v : Point) → HasDirections a b v
 directions_exist a b valid v =
     let h = rays_at v (segs_of_both a b)
-    (All-append IsProper (segs_of a) (segs_of b) (proper_segs a valid.a_shaped) (proper_segs b valid.b_shaped)) in
+    (All-append IsFit (segs_of a) (segs_of b) (fit_segs a valid.a_shaped) (fit_segs b valid.b_shaped)) in
     record { rays = h.rays; are = are_directions v (segs_of_both a b) h.rays h.are }
 
 -- ---- each direction

@@ -15,6 +15,7 @@ use Rattle.plane_exact.proofs.Laws.{shift-positions, rise-positions}
 use Rattle.plane_laws.specs.Plane.{Point, rise, shift}
 use Rattle.plane_exact.specs.Places.{point_of, IsInLimit}
 use Rattle.plane_laws.specs.Directions.{Direction, PointSameWay}
+use Rattle.plane_exact.specs.Directions.{IsWay}
 use Rattle.plane_exact.specs.Orders.{direction_of, compare_angles}
 use Rattle.plane_exact.specs.declared.dir.Dir.{Dir}
 use Rattle.plane_exact.specs.declared.point.Pt.{Pt}
@@ -117,7 +118,7 @@ areas_within (area ∷ areas) all = (
 
 -- ---- the two ways of an edge
 -- the edge turned round
-swapped : Seg → Seg
+unfoldable pub swapped : Seg → Seg
 swapped e = record { a = e.b; b = e.a }
 
 -- the step between two coordinates within the limit is short enough for a way
@@ -137,25 +138,25 @@ no_step p q z =
     level : (x y : ℤ) → x -ℤ y ≡ pos 0 → y ≡ x
     level x y e = omega (arith, linear, e)
 
--- from the first end to the second
-way_of : (e : Seg) → IsFit e → Dir
-way_of e fit =
+-- the step from the first end to the second is that of a way
+pub way_is : (e : Seg) → IsFit e → IsWay (e.b.x -ℤ e.a.x) (e.b.y -ℤ e.a.y)
+way_is e fit =
     let x = limit_step e.a.x e.b.x fit.first.left fit.first.right fit.second.left fit.second.right in
     let y = limit_step e.a.y e.b.y fit.first.bottom fit.first.top fit.second.bottom fit.second.top in
     record {
-      dx = e.b.x -ℤ e.a.x;
-      dy = e.b.y -ℤ e.a.y;
-      way = record {
-        left = x.0;
-        right = x.1;
-        bottom = y.0;
-        top = y.1;
-        turned = λ z. true≢false (sym (no_step e.a e.b z) ∙ fit.apart);
-      };
+      left = x.0;
+      right = x.1;
+      bottom = y.0;
+      top = y.1;
+      turned = λ z. true≢false (sym (no_step e.a e.b z) ∙ fit.apart);
     }
 
+-- the way from the first end to the second
+unfoldable pub way_of : (e : Seg) → IsFit e → Dir
+way_of e fit = record { dx = e.b.x -ℤ e.a.x; dy = e.b.y -ℤ e.a.y; way = way_is e fit }
+
 -- an edge turned round is fit too
-swapped_fit : (e : Seg) → IsFit e → IsFit (swapped e)
+pub swapped_fit : (e : Seg) → IsFit e → IsFit (swapped e)
 unfolding swapped
 swapped_fit e fit = record { first = fit.second; second = fit.first; apart = by_test (is_same_position e.b e.a) refl }
   where

@@ -1,0 +1,12 @@
+mod Answered
+mod Contributions
+mod Crossings
+mod EdgeSections
+mod Entries
+mod FigureEdges
+mod Filled
+mod Positions
+mod Sets
+mod Taking
+mod Together
+mod Visits
