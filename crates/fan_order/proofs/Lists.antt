@@ -1,13 +1,14 @@
 -- Lists of rays: what a sort and the dropping of equal directions leave.
+use Rattle.std.proofs.Common.{Bool, true, false, cond, ◌≤◌, drop}
 use Rattle.std.proofs.Common.{◌≡◌, ℕ, ◌+◌, ◌<◌, List, [], ◌∷◌, ◌++◌, length, get_or, take, subst, Less, Ordering, suc, ap, refl, sym, ◌∙◌, arith}
-use Rattle.std.specs.List.{All, AllPairs, AllZip, Any, Contains, dedup}
+use Rattle.std.specs.List.{All, AllPairs, AllZip, Any, Contains, dedup, dedup_from, refill}
 use Rattle.std.specs.List.Sorted.{IsPermutation, IsSorted, IsStrictlySortedBy}
 use Rattle.std.specs.Ordering.{eq_by_cmp}
 use Rattle.std.specs.Cmp.{Equal-is}
 use Rattle.std.proofs.lemmas.Cmp.{eq_by_cmp_equiv}
-use Rattle.std.proofs.lemmas.List.{take_more}
+use Rattle.std.proofs.lemmas.List.{take_more, take_at}
 use Rattle.std.proofs.lemmas.List.Kept.{AllPairs-cons, Any-dedup, Contains-from_dedup, IsStrictlySortedBy-dedup}
-use Rattle.std.proofs.lemmas.List.Sorted.{Contains-permutation, IsPermutation-sym}
+use Rattle.std.proofs.lemmas.List.Sorted.{Contains-permutation, IsPermutation-sym, length_permutation}
 use Rattle.std.proofs.lemmas.List.Elements.{All-from_recursion, All-cons, All-nil, All-weaker, All-contains, All-contains_itself}
 use Rattle.plane_laws.proofs.Directions.Angles.{joined_ways}
 use Rattle.plane_exact.proofs.Laws.{compare_angles_total, same_compare_angles}
@@ -88,3 +89,38 @@ AreRaysOf-kept sections old rays zip up only whole = record {
 
 pub short_kept : (old rays : List Dir) → All IsShort old → All (Contains old) rays → All IsShort rays
 short_kept old rays h only = All-weaker (Contains old) IsShort (λ d k. All-contains IsShort old d h k) rays only
+
+-- ---- how many are left
+few_from : {X : Type 0} (same : X → X → Bool) (k : X) (xs : List X) → length (dedup_from same k xs) ≤ suc (length xs)
+few_from same k [] = omega arith
+few_from {X} same k (x ∷ xs) =
+    let dropped = few_from same k xs in
+    let left = few_from same x xs in
+    by_test (same x k) (dedup_from same k xs) (dedup_from same x xs) dropped left
+  where
+    by_test : (b : Bool) (ks rest : List X) → length ks ≤ suc (length xs) → length rest ≤ suc (length xs)
+        → length (cond b ks (k ∷ rest)) ≤ suc (length (x ∷ xs))
+    by_test true ks rest h l = omega (arith, h)
+    by_test false ks rest h l = omega (arith, l)
+
+-- no more than there were
+few_left : {X : Type 0} (same : X → X → Bool) (xs : List X) → length (dedup same xs) ≤ length xs
+few_left same [] = omega arith
+few_left same (x ∷ xs) = few_from same x xs
+
+pub kept_few : (old mid : List Dir) → IsPermutation old mid → length (kept mid) ≤ length old
+kept_few old mid moved =
+    let e = length_permutation old mid moved in
+    let h = few_left (eq_by_cmp compare_angles) mid in
+    omega (arith, e, h)
+
+-- as many rays as sections before
+pub as_many : {X Y : Type 0} (R : X → Y → Type 0) (xs : List X) (ys : List Y) → AllZip R xs ys → length xs ≡ length ys
+as_many R [] [] h = refl
+as_many R [] (y ∷ ys) h = absurd h
+as_many R (x ∷ xs) [] h = absurd h
+as_many R (x ∷ xs) (y ∷ ys) h = let e = as_many R xs ys h.1 in omega (arith, e)
+
+-- ---- what is written back in the place of a whole list is the list
+pub refilled : {X : Type 0} (old new : List X) → length new ≡ length old → refill (length old) old new ≡ new
+refilled old new e = take_at new (drop (length new) old) (length old) e

@@ -1,3 +1,4 @@
 pub mod Rays
 pub mod Fans
 pub mod Sections
+pub mod Passes

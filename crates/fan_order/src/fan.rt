@@ -5,6 +5,7 @@ ghost use Rattle.plane_exact.specs.Orders.{direction_of, compare_angles, IsSameD
 ghost use Rattle.point_set.specs.Sectors.{IsMiddle, IsInSector, sectors_of};
 ghost use Rattle.point_set.specs.Validity.{IsAtPlace};
 ghost use Rattle.fan_order.specs.Rays.{IsShort, IsRayOf, AreRaysOf};
+ghost use Rattle.fan_order.specs.Passes.{IsRound};
 ghost use Rattle.fan_order.specs.Sections.{IsLineAlong, IsSectorInside, AreHandsAlike, AreSided};
 ghost use Rattle.plane_exact.specs.declared.dir.Dir.{Dir};
 
@@ -12,7 +13,7 @@ use crate::lowest::lowest;
 use crate::middle::middle_between;
 use crate::ray::Ray;
 use crate::section::{Section, SectionList};
-use crate::walk::{is_any_inside, is_line_along};
+use crate::walk::Walk;
 use im_matrix::Which;
 use plane_exact::{Dir, NoMemory};
 use smallvec::SmallVec;
@@ -24,16 +25,18 @@ use std::marker::Model;
 pub struct Fan {
     rays: SmallVec<Ray, 8>,
     sections: SmallVec<Section, 8>,
+    a: Walk,
+    b: Walk,
 }
 
 impl Model for Fan {
-    ghost use Rattle.fan_order.specs.Fans.{SeenFan, IsFan};
+    ghost use Rattle.fan_order.specs.Fans.{SeenFan, IsWalkedFan};
 
     ghost Value = { SeenFan };
 
     ghost view = { λ f. record { rays = f.rays.items; sections = f.sections.items } };
 
-    ghost invariant = { λ f. IsFan (record { rays = f.rays.items; sections = f.sections.items }) };
+    ghost invariant = { λ f. IsWalkedFan (record { rays = f.rays.items; sections = f.sections.items }) f.a f.b };
 }
 
 impl Fan {
@@ -50,8 +53,15 @@ impl Fan {
     {
         let mut rays = rays_of(alloc, sections.as_slice())?;
         sort_rays(&mut rays);
+        let a = Walk::round(alloc, sections.as_slice(), rays.as_slice(), Which::A)?;
+        let b = Walk::round(alloc, sections.as_slice(), rays.as_slice(), Which::B)?;
         let sections = SmallVec::from_slice(alloc, sections.as_slice())?;
-        Ok(Fan { rays, sections })
+        Ok(Fan {
+            rays,
+            sections,
+            a,
+            b,
+        })
     }
 
     /// How many rays there are.
@@ -107,10 +117,11 @@ impl Fan {
         ensures inside { AreHandsAlike which self.now.sections → AreSided which self.now.sections
             → (IsTrue result ↔ IsSectorInside which self.now.sections self.now.rays i) }
     {
-        if self.rays.is_empty() {
+        let count = self.rays.len();
+        if count == 0 {
             return false;
         }
-        is_any_inside(self.sections.as_slice(), self.rays.as_slice(), which, i)
+        self.walk(which).inside[count + i]
     }
 
     /// Whether a line of a figure runs along ray `i`.
@@ -118,8 +129,17 @@ impl Fan {
         requires { i < length self.now.rays }
         ensures line { (ray : Dir) → IsAtPlace self.now.rays i ray → (IsTrue result ↔ IsLineAlong which self.now.sections ray) }
     {
-        let ray = self.rays[i];
-        is_line_along(self.sections.as_slice(), which, ray.dir)
+        self.walk(which).lines[i]
+    }
+
+    /// What was found of a figure.
+    fn walk(&self, which: Which) -> &Walk
+        ensures round { IsRound which self.now.sections self.now.rays result.now }
+    {
+        match which {
+            Which::A => &self.a,
+            Which::B => &self.b,
+        }
     }
 }
 
@@ -145,6 +165,7 @@ fn sort_rays(rays: &mut SmallVec<Ray, 8>)
     ensures ascending { AllPairs (λ d e. compare_angles d e ≡ Less) rays.new.items }
     ensures only { All (Contains rays.old.items) rays.new.items }
     ensures whole { All (λ d. Any (IsSameDirection d) rays.new.items) rays.old.items }
+    ensures few { length rays.new.items ≤ length rays.old.items }
 {
     rays.sort_unstable();
     rays.dedup();

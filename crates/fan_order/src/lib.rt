@@ -4,6 +4,7 @@
 mod fan;
 mod lowest;
 mod middle;
+mod pass;
 mod ray;
 mod section;
 #[cfg(test)]

@@ -1,7 +1,9 @@
 ghost use Rattle.std.specs.Cmp.{partial_equiv_from_equiv, eq_by_cmp_equiv, partial_order_from_agreeing_total};
 ghost use Rattle.std.specs.Ordering.{eq_by_cmp, as_partial_cmp};
-ghost use Rattle.std.specs.Prelude.{refl};
-ghost use Rattle.plane_exact.specs.Orders.{compare_angles};
+ghost use Rattle.std.specs.Prelude.{◌≡◌, ◌<◌, refl, length, AllPairs, Any};
+ghost use Rattle.std.specs.declared.cmp.Ordering.TheVariants.{Less};
+ghost use Rattle.plane_exact.specs.Orders.{compare_angles, IsSameDirection};
+ghost use Rattle.fan_order.specs.Rays.{IsRayPlace};
 ghost use Rattle.plane_exact.proofs.Laws.{compare_angles_total};
 
 use plane_exact::{Dir, cmp_turn};
@@ -67,5 +69,17 @@ impl Ord for Ray {
 
     fn cmp(&self, other: &Ray) -> Ordering {
         cmp_turn(self.dir, other.dir)
+    }
+}
+
+/// The place of the ray of a direction.
+pub(crate) fn place_of(rays: &[Ray], dir: Dir) -> usize
+    requires ascending { AllPairs (λ d e. compare_angles d e ≡ Less) rays.now }
+    requires there { Any (IsSameDirection dir) rays.now }
+    ensures place { IsRayPlace rays.now dir result }
+    ensures within { result < length rays.now }
+{
+    match rays.binary_search(&Ray { dir }) {
+        Ok(place) | Err(place) => place,
     }
 }

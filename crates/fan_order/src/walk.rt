@@ -1,108 +1,102 @@
-ghost use Rattle.std.specs.Prelude.{◌≡◌, ◌<◌, ◌+◌, ◌++◌, ◌↔◌, ℕ, length, take, IsTrue, Some, Bool, true, false};
-ghost use Rattle.plane_exact.specs.Orders.{IsSameDirection};
+ghost use Rattle.std.specs.Prelude.{◌≡◌, ◌<◌, ◌≤◌, ◌+◌, ◌*◌, ◌↔◌, ◌⊎◌, ◌∷◌, [], ℕ, length, AllPairs, Any, IfOk, IsOk, IsTrue, slice_index_or, false, true};
+ghost use Rattle.std.specs.declared.cmp.Ordering.TheVariants.{Less};
+ghost use Rattle.plane_exact.specs.Orders.{compare_angles, IsSameDirection};
 ghost use Rattle.point_set.specs.declared.edge.Hand.TheVariants as hand;
-ghost use Rattle.fan_order.specs.Sections.{IsAreaAlong, IsLineAlong, IsStep, IsWalk, IsSectorInside, AreHandsAlike, AreSided};
+ghost use Rattle.point_set.specs.Validity.{IsAtPlace};
+ghost use Rattle.plane_exact.specs.declared.dir.Dir.{Dir};
+ghost use Rattle.fan_order.specs.Passes.{IsRound};
+ghost use Rattle.fan_order.specs.Rays.{AreRaysOf};
+ghost use Rattle.fan_order.specs.Sections.{IsLineAlong, IsSectorInside, AreHandsAlike, AreSided};
 
-use crate::ray::Ray;
+use crate::pass::{Pass, open_at, passes_of, reach_of};
+use crate::ray::{Ray, place_of};
 use crate::section::Section;
 use im_matrix::Which;
-use plane_exact::{Dir, cmp_turn};
+use plane_exact::NoMemory;
 use point_set::Hand;
-use std::cmp::Ordering;
+use smallvec::SmallVec;
+use std::alloc::Global;
 
-/// Whether the sector after ray `i` is inside an area of the figure.
-pub(crate) fn is_any_inside(sections: &[Section], rays: &[Ray], which: Which, i: usize) -> bool
-    requires { i < length rays.now }
-    ensures inside { AreHandsAlike which sections.now → AreSided which sections.now
-        → (IsTrue result ↔ IsSectorInside which sections.now rays.now i) }
-{
-    for section in sections {
-        if is_area_inside(sections, rays, which, section, i) {
-            return true;
-        }
-    }
-    false
+/// What a walk round the rays finds of one figure.
+#[derive(Debug, Drop)]
+pub(crate) struct Walk {
+    /// For each place of the walk twice round the rays, whether the sector after it is inside an area. The first turn starts
+    /// outside all areas, and the second as the first ended.
+    pub(crate) inside: SmallVec<bool, 16>,
+    /// For each ray, whether a line runs along it.
+    pub(crate) lines: SmallVec<bool, 8>,
 }
 
-/// Whether the section is one of an area of the figure, and the sector after ray `i` is inside this area.
-fn is_area_inside(
+impl Walk {
+    /// Walks round the rays of the sections.
+    pub(crate) fn round(
+        alloc: Global,
+        sections: &[Section],
+        rays: &[Ray],
+        which: Which,
+    ) -> Result<Walk, NoMemory>
+        requires rays { AreRaysOf sections.now rays.now }
+        ensures round { IfOk result (IsRound which sections.now rays.now) }
+        ensures room { length sections.now ≤ 8 → length rays.now ≤ 8 → IsOk result }
+    {
+        let inside = inside_of(alloc, sections, rays, which)?;
+        let mut lines = SmallVec::from_elem(alloc, false, rays.len())?;
+        note_lines(lines.as_mut_slice(), sections, rays, which);
+        Ok(Walk { inside, lines })
+    }
+}
+
+/// For each place of the walk twice round the rays, whether the sector after it is inside an area of the figure.
+fn inside_of(
+    alloc: Global,
     sections: &[Section],
     rays: &[Ray],
     which: Which,
-    section: &Section,
-    i: usize,
-) -> bool
-    requires { i < length rays.now }
-    ensures inside { AreHandsAlike which sections.now → AreSided which sections.now
-        → (IsTrue result ↔ ((section.now.which ≡ which) × ((area : ℕ) × (section.now.area ≡ Some area)
-        × IsWalk which area sections.now (rays.now ++ take (i + 1) rays.now) false true))) }
+) -> Result<SmallVec<bool, 16>, NoMemory>
+    requires rays { AreRaysOf sections.now rays.now }
+    ensures turns { IfOk result (λ inside. length inside.items ≡ 2 * length rays.now) }
+    ensures inside { IfOk result (λ inside. AreHandsAlike which sections.now → AreSided which sections.now → (i : ℕ)
+        → i < length rays.now
+        → (IsTrue (slice_index_or inside.items (length rays.now + i) false) ↔ IsSectorInside which sections.now rays.now i)) }
+    ensures room { length sections.now ≤ 8 → length rays.now ≤ 8 → IsOk result }
 {
-    match section.area {
-        Some(area) => {
-            let round = walk(sections, rays, which, area, false);
-            section.which == which && walk(sections, &rays[..=i], which, area, round)
-        }
-        None => false,
-    }
+    let mut passes = passes_of(alloc, sections, rays, which)?;
+    passes.sort_unstable();
+    let reach = reach_of(alloc, passes.as_slice(), 2 * rays.len())?;
+    open_at(alloc, reach.as_slice())
 }
 
-/// Walks along rays in order, from a state to the state after the last ray: whether the walk is inside the area.
-fn walk(sections: &[Section], rays: &[Ray], which: Which, area: u32, before: bool) -> bool
-    ensures walk { AreHandsAlike which sections.now → AreSided which sections.now → IsWalk which area sections.now rays.now before result }
-{
-    let mut inside = before;
-    for ray in rays {
-        inside = step(sections, ray.dir, which, area, inside);
-    }
-    inside
-}
-
-/// The state after a ray: whether a section of the area along it has the area on its left, or the state before where none runs
-/// along it.
-fn step(sections: &[Section], ray: Dir, which: Which, area: u32, before: bool) -> bool
-    ensures step { AreHandsAlike which sections.now → AreSided which sections.now → IsStep which area sections.now ray before result }
+/// Notes the rays along which a line of the figure runs.
+fn note_lines(lines: &mut [bool], sections: &[Section], rays: &[Ray], which: Which)
+    requires rays { AreRaysOf sections.now rays.now }
+    requires length { length lines.old ≡ length rays.now }
+    requires none { (i : ℕ) → ¬ IsTrue (slice_index_or lines.old i false) }
+    ensures length { length lines.new ≡ length rays.now }
+    ensures lines { (i : ℕ) (ray : Dir) → IsAtPlace rays.now i ray
+        → (IsTrue (slice_index_or lines.new i false) ↔ IsLineAlong which sections.now ray) }
 {
     for section in sections {
-        if is_along(section, ray, which, area) {
-            return is_left(section.hand);
-        }
+        note_line(lines, section, rays, which);
     }
-    before
 }
 
-/// Whether the area is on the left.
-fn is_left(side: Hand) -> bool
-    ensures left { IsTrue result ↔ (side ≡ hand.Left) }
+/// Notes the ray of a section where it is one of a line of the figure.
+fn note_line(lines: &mut [bool], section: &Section, rays: &[Ray], which: Which)
+    requires ascending { AllPairs (λ d e. compare_angles d e ≡ Less) rays.now }
+    requires along { Any (IsSameDirection section.now.dir) rays.now }
+    requires length { length lines.old ≡ length rays.now }
+    ensures length { length lines.new ≡ length rays.now }
+    ensures lines { (i : ℕ) (ray : Dir) → IsAtPlace rays.now i ray → (IsTrue (slice_index_or lines.new i false)
+        ↔ (IsTrue (slice_index_or lines.old i false) ⊎ IsLineAlong which (section.now ∷ []) ray)) }
 {
-    side == Hand::Left
-}
-
-/// Whether the section is one of the area and runs along the ray.
-fn is_along(section: &Section, ray: Dir, which: Which, area: u32) -> bool
-    ensures along { IsTrue result ↔ IsAreaAlong which area ray section.now }
-{
-    section.which == which
-        && section.area == Some(area)
-        && cmp_turn(section.dir, ray) == Ordering::Equal
-}
-
-/// Whether a line of the figure runs along the ray.
-pub(crate) fn is_line_along(sections: &[Section], which: Which, ray: Dir) -> bool
-    ensures line { IsTrue result ↔ IsLineAlong which sections.now ray }
-{
-    for section in sections {
-        if is_of_line(section, which, ray) {
-            return true;
-        }
+    if is_of_line(section, which) {
+        lines[place_of(rays, section.dir)] = true;
     }
-    false
 }
 
-/// Whether the section is one of a line of the figure and runs along the ray.
-fn is_of_line(section: &Section, which: Which, ray: Dir) -> bool
-    ensures line { IsTrue result ↔ ((section.now.which ≡ which) × (section.now.hand ≡ hand.Line) × IsSameDirection section.now.dir ray) }
+/// Whether the section is one of a line of the figure.
+fn is_of_line(section: &Section, which: Which) -> bool
+    ensures line { IsTrue result ↔ ((section.now.which ≡ which) × (section.now.hand ≡ hand.Line)) }
 {
-    section.which == which
-        && section.hand == Hand::Line
-        && cmp_turn(section.dir, ray) == Ordering::Equal
+    section.which == which && section.hand == Hand::Line
 }

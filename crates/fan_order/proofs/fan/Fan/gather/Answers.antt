@@ -1,9 +1,14 @@
-use Rattle.std.proofs.Common.{◌≡◌, List, sym, ◌∙◌, subst}
+use Rattle.std.proofs.Common.{◌≡◌, List, length, sym, ap, ◌∙◌, subst, arith}
 use Rattle.std.specs.List.{AllZip}
+use Rattle.std.proofs.lemmas.Bool.{false≢true}
+use Rattle.im_matrix.specs.declared.Which.{Which}
+use Rattle.im_matrix.specs.declared.Which.TheVariants.{A, B}
 use Rattle.plane_exact.specs.declared.dir.Dir.{Dir}
 use Rattle.fan_order.specs.declared.section.Section.{Section}
+use Rattle.fan_order.specs.declared.walk.Walk.{Walk}
+use Rattle.fan_order.specs.Passes.{IsRound}
 use Rattle.fan_order.specs.Rays.{IsRayOf, AreRaysOf}
-use Rattle.fan_order.proofs.Lists.{AreRaysOf-kept, short_kept}
+use Rattle.fan_order.proofs.Lists.{AreRaysOf-kept, short_kept, as_many}
 use Rattle.fan_order.proofs.fan.Fan.gather.Goals as goal
 
 pub returns-clause-rays : goal.returns-clause-rays
@@ -12,14 +17,71 @@ returns-clause-rays c =
     (subst (λ (sections : List Section). AllZip (λ (s : Section) (ray : Dir). IsRayOf s.dir ray) sections c.in_ok-rays.rays.items) c.as_slice.ensures.items c.in_ok-rays.ensures.rays)
     c.sort_rays.ensures.ascending c.sort_rays.ensures.only c.sort_rays.ensures.whole
 
+pub round-requires : goal.round-requires
+round-requires c =
+    let rays : AreRaysOf c.args.sections.now c.sort_rays.new.rays.items =
+    AreRaysOf-kept c.args.sections.now c.in_ok-rays.rays.items c.sort_rays.new.rays.items
+    (subst (λ (sections : List Section). AllZip (λ (s : Section) (ray : Dir). IsRayOf s.dir ray) sections c.in_ok-rays.rays.items) c.as_slice.ensures.items c.in_ok-rays.ensures.rays)
+    c.sort_rays.ensures.ascending c.sort_rays.ensures.only c.sort_rays.ensures.whole in
+    record {
+      rays =
+          subst (λ (sections : List Section). AreRaysOf sections c.as_slice-3.result.now) (sym c.as_slice-2.ensures.items)
+          (subst (λ (ds : List Dir). AreRaysOf c.args.sections.now ds) (sym c.as_slice-3.ensures) rays);
+    }
+
+pub round-requires-2 : goal.round-requires-2
+round-requires-2 c =
+    let rays : AreRaysOf c.args.sections.now c.sort_rays.new.rays.items =
+    AreRaysOf-kept c.args.sections.now c.in_ok-rays.rays.items c.sort_rays.new.rays.items
+    (subst (λ (sections : List Section). AllZip (λ (s : Section) (ray : Dir). IsRayOf s.dir ray) sections c.in_ok-rays.rays.items) c.as_slice.ensures.items c.in_ok-rays.ensures.rays)
+    c.sort_rays.ensures.ascending c.sort_rays.ensures.only c.sort_rays.ensures.whole in
+    record {
+      rays =
+          subst (λ (sections : List Section). AreRaysOf sections c.as_slice-5.result.now) (sym c.as_slice-4.ensures.items)
+          (subst (λ (ds : List Dir). AreRaysOf c.args.sections.now ds) (sym c.as_slice-5.ensures) rays);
+    }
+
+pub returns-in_err-a-clause-room : goal.returns-in_err-a-clause-room
+returns-in_err-a-clause-room c = λ few.
+    let many = as_many (λ (s : Section) (ray : Dir). IsRayOf s.dir ray) c.as_slice.result.now c.in_ok-rays.rays.items c.in_ok-rays.ensures.rays in
+    let given = ap length c.as_slice.ensures.items in
+    let seen = ap length c.as_slice-2.ensures.items in
+    let kept = c.sort_rays.ensures.few in
+    let rays = ap length c.as_slice-3.ensures in
+    absurd (false≢true (c.in_err-a.ensures.room (omega (arith, few, seen)) (omega (arith, few, many, given, kept, rays))))
+
+pub returns-in_err-b-clause-room : goal.returns-in_err-b-clause-room
+returns-in_err-b-clause-room c = λ few.
+    let many = as_many (λ (s : Section) (ray : Dir). IsRayOf s.dir ray) c.as_slice.result.now c.in_ok-rays.rays.items c.in_ok-rays.ensures.rays in
+    let given = ap length c.as_slice.ensures.items in
+    let seen = ap length c.as_slice-4.ensures.items in
+    let kept = c.sort_rays.ensures.few in
+    let rays = ap length c.as_slice-5.ensures in
+    absurd (false≢true (c.in_err-b.ensures.room (omega (arith, few, seen)) (omega (arith, few, many, given, kept, rays))))
+
+-- what was found of a figure, said of the fan's own lists
+round_of : (which : Which) (given sections : List Section) (seen rays : List Dir) (walk : Walk) → given ≡ sections → seen ≡ rays
+    → IsRound which given seen walk → IsRound which sections rays walk
+round_of which given sections seen rays walk same also round =
+    subst (λ (ss : List Section). IsRound which ss rays walk) same (subst (λ (ds : List Dir). IsRound which given ds walk) also round)
+
 pub invariant_of-result : goal.invariant_of-result
 invariant_of-result c =
     let rays : AreRaysOf c.args.sections.now c.sort_rays.new.rays.items =
     AreRaysOf-kept c.args.sections.now c.in_ok-rays.rays.items c.sort_rays.new.rays.items
     (subst (λ (sections : List Section). AllZip (λ (s : Section) (ray : Dir). IsRayOf s.dir ray) sections c.in_ok-rays.rays.items) c.as_slice.ensures.items c.in_ok-rays.ensures.rays)
     c.sort_rays.ensures.ascending c.sort_rays.ensures.only c.sort_rays.ensures.whole in
-    let same : c.in_ok-sections.sections.items ≡ c.args.sections.now = c.in_ok-sections.ensures.ok ∙ c.as_slice-2.ensures.items in
+    let kept = c.in_ok-sections.sections.items in
+    let same : kept ≡ c.args.sections.now = c.in_ok-sections.ensures.ok ∙ c.as_slice-6.ensures.items in
     record {
-      rays = subst (λ (sections : List Section). AreRaysOf sections c.sort_rays.new.rays.items) (sym same) rays;
-      short = short_kept c.in_ok-rays.rays.items c.sort_rays.new.rays.items c.in_ok-rays.ensures.short c.sort_rays.ensures.only;
+      is_fan = record {
+        rays = subst (λ (sections : List Section). AreRaysOf sections c.sort_rays.new.rays.items) (sym same) rays;
+        short = short_kept c.in_ok-rays.rays.items c.sort_rays.new.rays.items c.in_ok-rays.ensures.short c.sort_rays.ensures.only;
+      };
+      of_a =
+          round_of A c.as_slice-2.result.now kept c.as_slice-3.result.now c.sort_rays.new.rays.items c.in_ok-a.a
+          (c.as_slice-2.ensures.items ∙ sym same) c.as_slice-3.ensures c.in_ok-a.ensures.round;
+      of_b =
+          round_of B c.as_slice-4.result.now kept c.as_slice-5.result.now c.sort_rays.new.rays.items c.in_ok-b.b
+          (c.as_slice-4.ensures.items ∙ sym same) c.as_slice-5.ensures c.in_ok-b.ensures.round;
     }
