@@ -1,0 +1,6 @@
+//! The relation of two figures.
+#![tactic(auto)]
+
+mod evaluation;
+
+pub use evaluation::evaluate;
