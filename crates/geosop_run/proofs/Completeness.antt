@@ -46,8 +46,10 @@ module _ (run : Run) where
     -- a side that is admitted has no refusal
     no_refusal : (text : List ℕ) → HasText run command text → (side : Which) (bytes : List ℕ) → HasBytes run command side bytes
         → (found : Refusal) → IsRefusalOf (scale_of command) side bytes found → ⊥
-    no_refusal text h A bytes told found refusal = admitted_not_refused (scale_of command) A bytes h.in_a found (h.admitted_a.admitted bytes told) refusal
-    no_refusal text h B bytes told found refusal = admitted_not_refused (scale_of command) B bytes h.in_b found (h.admitted_b.admitted bytes told) refusal
+    no_refusal text h A bytes told found refusal =
+        admitted_not_refused (scale_of command) A bytes h.in_a found (h.admitted_a.admitted bytes told) refusal
+    no_refusal text h B bytes told found refusal =
+        admitted_not_refused (scale_of command) B bytes h.in_b found (h.admitted_b.admitted bytes told) refusal
 
     -- two sides that are admitted have no first refusal
     no_first : (text : List ℕ) → HasText run command text → (a b : List ℕ) → HasBytes run command A a → HasBytes run command B b
@@ -75,7 +77,8 @@ module _ (run : Run) where
         let s = of_this _ command is says in absurd (no_first s.text s.of_pairs a b told_a told_b found first)
     refusal_comes (status.Usage other) says a b told_a told_b found first = absurd (command_or_usage run.words command other is says.first)
     refusal_comes (status.Refused other) says a b told_a told_b found first =
-        let s = of_this _ command is says in inl (ap status.Refused (one_first_refusal (scale_of command) a b other found (s.first a b told_a told_b) first))
+        let s = of_this _ command is says in
+        inl (ap status.Refused (one_first_refusal (scale_of command) a b other found (s.first a b told_a told_b) first))
     refusal_comes status.ReadFault says a b told_a told_b found first = inr (inl refl)
     refusal_comes status.WriteFault says a b told_a told_b found first =
         let s = of_this _ command is says in absurd (no_first s.text s.of_pairs a b told_a told_b found first)
@@ -90,7 +93,8 @@ module _ (run : Run) where
         by_side : (side : Which) → side_of other ≡ side → other ≡ found
         by_side A e =
             let s = of_this _ command is says in
-            let Refuses : Which → Type 0 = λ side. (bytes : List ℕ) → HasBytes run command side bytes → IsRefusalOf (scale_of command) side bytes other in
+            let Refuses : Which → Type 0 = λ side. (bytes : List ℕ) → HasBytes run command side bytes
+            → IsRefusalOf (scale_of command) side bytes other in
             one_refusal (scale_of command) A a other found (subst Refuses e s.refused.refusal a told) refusal
         by_side B e =
             let s = of_this _ command is says in
@@ -114,7 +118,8 @@ module _ (run : Run) where
         → run.inputs_after.asked B ≡ None
     b_unasked last a told found refusal = elim last [
       | inl none ↦ none
-      | inr admitted ↦ (let s = of_this _ command is admitted in absurd (admitted_not_refused (scale_of command) A a s.0 found (s.1.admitted a told) refusal))
+      | inr admitted ↦ (let s = of_this _ command is admitted in
+          absurd (admitted_not_refused (scale_of command) A a s.0 found (s.1.admitted a told) refusal))
     ]
 
     unwritten : (ended : Status) → SaysOf run ended → (side : Which) (bytes : List ℕ) → HasBytes run command side bytes

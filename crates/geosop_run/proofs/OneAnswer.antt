@@ -89,7 +89,8 @@ module _ (scale : ℕ) where
     text_no_shape_fault : (i j : ℕ) (kind : WktKind) (place : ℕ) (other : InvalidKind) (element : ℕ) → IsFaultAt scale bytes i kind place
         → IsShapeFaultAt scale bytes j other element → ⊥
     text_no_shape_fault i j kind place other element f g =
-        let e = one_end f.before g.before f.at g.at f.geometries (faulty kind place f.fault) g.geometries (invalid other element g.invalid) in
+        let e = one_end f.before g.before f.at g.at f.geometries (faulty kind place f.fault) g.geometries
+        (invalid other element g.invalid) in
         let moved = subst (λ (x : ℕ). FirstFault scale bytes x kind place) e.0 f.fault in
         moved.unread g.invalid.figure g.invalid.«end» g.invalid.reads
 
@@ -115,7 +116,8 @@ module _ (scale : ℕ) where
     one_shape_fault : (i j : ℕ) (kind other : InvalidKind) (element spot : ℕ) → IsShapeFaultAt scale bytes i kind element
         → IsShapeFaultAt scale bytes j other spot → SameShapeFault i j kind other element spot
     one_shape_fault i j kind other element spot f g =
-        let e = one_end f.before g.before f.at g.at f.geometries (invalid kind element f.invalid) g.geometries (invalid other spot g.invalid) in
+        let e = one_end f.before g.before f.at g.at f.geometries (invalid kind element f.invalid) g.geometries
+        (invalid other spot g.invalid) in
         let moved = subst (λ (x : ℕ). IsInvalidAt scale bytes x kind element) e.0 f.invalid in
         let last = g.invalid in
         let figure = one_reading scale bytes g.at moved.figure last.figure moved.«end» last.«end» moved.reads last.reads in

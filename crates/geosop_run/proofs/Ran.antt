@@ -54,16 +54,18 @@ admitted_stays scale side from before old new figures same h = record {
 }
 
 -- what is admitted later is admitted by what the names held before
-admitted_since : (scale : ℕ) (side : Which) (from : Source) (before middle after : InputsSeen) (figures : List Figure) → middle.holds ≡ before.holds
-    → IsAdmittedFrom scale side from middle after figures → IsAdmittedFrom scale side from before after figures
+admitted_since : (scale : ℕ) (side : Which) (from : Source) (before middle after : InputsSeen) (figures : List Figure)
+    → middle.holds ≡ before.holds → IsAdmittedFrom scale side from middle after figures
+    → IsAdmittedFrom scale side from before after figures
 admitted_since scale side from before middle after figures same h = record {
   read = h.read;
   admitted = λ bytes told. h.admitted bytes (ap (λ holds. bytes_of holds from) same ∙ told);
 }
 
 -- and a fault of a side likewise
-fault_since : (scale : ℕ) (side : Which) (from : Source) (before middle after : InputsSeen) (found : SideFault) → middle.holds ≡ before.holds
-    → middle.faults ≡ before.faults → IsSideFault scale side from middle after found → IsSideFault scale side from before after found
+fault_since : (scale : ℕ) (side : Which) (from : Source) (before middle after : InputsSeen) (found : SideFault)
+    → middle.holds ≡ before.holds → middle.faults ≡ before.faults → IsSideFault scale side from middle after found
+    → IsSideFault scale side from before after found
 fault_since scale side from before middle after (fault.Refused found) same uncounted h = (
   h.0,
   record { read = h.1.read; refusal = λ bytes told. h.1.refusal bytes (ap (λ holds. bytes_of holds from) same ∙ told) },
@@ -94,9 +96,9 @@ module _ (run : Run) (command : Config) (is : IsCommandOf run.words command) whe
 
   -- a run that ends at a side says why
   side_says : (side : Which) (found : SideFault) → HasComeTo run command side → IsUnwritten run
-      → IsSideFault (scale_of command) side (source_of_side command side) run.inputs_before run.inputs_after found → SaysOf run (status_of_side found)
+      → IsSideFault (scale_of command) side (source_of_side command side) run.inputs_before run.inputs_after found
+      → SaysOf run (status_of_side found)
   side_says side (fault.Refused found) come unwritten h =
-      let Refuses : Which → Type 0 = λ s. (bytes : List ℕ) → HasBytes run command s bytes → IsRefusalOf (scale_of command) (side_of found) bytes found in
       let refusal : (bytes : List ℕ) → HasBytes run command side bytes → IsRefusalOf (scale_of command) side bytes found
       = λ bytes told. subst (λ s. IsRefusalOf (scale_of command) s bytes found) h.0 (h.1.refusal bytes told) in
       record {
@@ -104,7 +106,8 @@ module _ (run : Run) (command : Config) (is : IsCommandOf run.words command) whe
         is_command = is;
         holds = record {
           come = subst (HasComeTo run command) (sym h.0) come;
-          refused = subst (λ s. IsRefusedFrom (scale_of command) (source_of_side command s) run.inputs_before run.inputs_after found) (sym h.0) h.1;
+          refused = subst (λ s. IsRefusedFrom (scale_of command) (source_of_side command s) run.inputs_before run.inputs_after found)
+              (sym h.0) h.1;
           first = first_refusal side found come refusal;
           unwritten = unwritten;
           read_well = h.2;
@@ -136,14 +139,16 @@ module _ (words : List (List ℕ)) (s0 : InputsSeen) (o0 : SinkSeen) (a_new : s0
       (asked_a : IsAskedOrNot command.a (s1.asked A))
     where
       -- at A
-      pub at_a : (found : SideFault) → IsSideFault (scale_of command) A command.a s0 s1 found → IsRun (ended_in s1 o0) (status_of_side found)
+      pub at_a : (found : SideFault) → IsSideFault (scale_of command) A command.a s0 s1 found
+          → IsRun (ended_in s1 o0) (status_of_side found)
       at_a found h =
           let run = ended_in s1 o0 in
           let none : s1.asked B ≡ None = others_a.other_side.asked ∙ b_new in
           run_of run (status_of_side found) (side_says run command is A found none refl h) (both_rightly run command is asked_a (inl none))
           (inl none)
 
-      module _ (in_a : List Figure) (admitted_a : IsAdmittedFrom (scale_of command) A command.a s0 s1 in_a) (uncounted_a : s1.faults ≡ s0.faults)
+      module _ (in_a : List Figure) (admitted_a : IsAdmittedFrom (scale_of command) A command.a s0 s1 in_a)
+          (uncounted_a : s1.faults ≡ s0.faults)
           (s2 : InputsSeen) (others_b : KeepsOthers B s1 s2) (asked_b : IsAskedOrNot command.b (s2.asked B))
         where
           -- A is admitted at the end too
@@ -158,14 +163,16 @@ module _ (words : List (List ℕ)) (s0 : InputsSeen) (o0 : SinkSeen) (a_new : s0
           last_asked o = inr (record { command = command; is_command = is; holds = (in_a, still_a o) })
 
           -- at B
-          pub at_b : (found : SideFault) → IsSideFault (scale_of command) B command.b s1 s2 found → IsRun (ended_in s2 o0) (status_of_side found)
+          pub at_b : (found : SideFault) → IsSideFault (scale_of command) B command.b s1 s2 found
+              → IsRun (ended_in s2 o0) (status_of_side found)
           at_b found h =
               let run = ended_in s2 o0 in
               let since = fault_since (scale_of command) B command.b s0 s1 s2 found others_a.holds uncounted_a h in
               run_of run (status_of_side found) (side_says run command is B found (in_a, still_a o0) refl since) (asked_both o0)
               (last_asked o0)
 
-          module _ (in_b : List Figure) (admitted_b : IsAdmittedFrom (scale_of command) B command.b s1 s2 in_b) (uncounted_b : s2.faults ≡ s1.faults)
+          module _ (in_b : List Figure) (admitted_b : IsAdmittedFrom (scale_of command) B command.b s1 s2 in_b)
+              (uncounted_b : s2.faults ≡ s1.faults)
               (o : SinkSeen) (text : List ℕ) (is_text : IsTextOf (rule_of command) (query_of command) in_a in_b text)
             where
               of_pairs : HasText (ended_in s2 o) command text

@@ -21,7 +21,8 @@ side_is scale side bytes (refusal.Shape of_side number kind element) h = h.0
 told_refusal : (scale : ℕ) (side : Which) (bytes told : List ℕ) (found : Refusal) → bytes ≡ told → IsRefusalOf scale side bytes found
     → IsRefusalOf scale (side_of found) told found
 told_refusal scale side bytes told found e h =
-    subst (λ (s : Which). IsRefusalOf scale s told found) (sym (side_is scale side bytes found h)) (subst (λ all. IsRefusalOf scale side all found) e h)
+    subst (λ (s : Which). IsRefusalOf scale s told found) (sym (side_is scale side bytes found h))
+    (subst (λ all. IsRefusalOf scale side all found) e h)
 
 -- how far a side was read that has a refusal by its text
 read_for : (scale : ℕ) (side : Which) (from : Source) (bytes : List ℕ) (found : Refusal) (before after : InputsSeen)

@@ -54,7 +54,8 @@ HasBytes run command side bytes = bytes_of run.inputs_before.holds (source_of_si
 -- A side is admitted as these figures: a file or standard input was asked for by its name and read to its end, and where its
 -- bytes are told, they are within the limit and read as these figures.
 abbrev pub IsAdmittedAs : Run → Config → Which → List Figure → Type 0
-IsAdmittedAs run command side figures = IsAdmittedFrom (scale_of command) side (source_of_side command side) run.inputs_before run.inputs_after figures
+IsAdmittedAs run command side figures =
+    IsAdmittedFrom (scale_of command) side (source_of_side command side) run.inputs_before run.inputs_after figures
 
 -- No fault of the inputs was counted.
 abbrev pub IsReadWell : Run → Type 0
@@ -165,8 +166,10 @@ pub record ComesOf (run : Run) (command : Config) (ended : Status) : Type 0 wher
   -- The first refusal of the input comes out, unless a fault is counted; that of A whatever B is, and then B isn't asked for.
   pub refusal : (a b : List ℕ) → HasBytes run command A a → HasBytes run command B b
       → (found : Refusal) → IsFirstRefusal (scale_of command) a b found → IsRefusedOrStopped ended found
-  pub refusal_of_a : (a : List ℕ) → HasBytes run command A a → (found : Refusal) → IsRefusalOf (scale_of command) A a found → IsRefusedOrStopped ended found
-  pub b_unasked : (a : List ℕ) → HasBytes run command A a → (found : Refusal) → IsRefusalOf (scale_of command) A a found → run.inputs_after.asked B ≡ None
+  pub refusal_of_a : (a : List ℕ) → HasBytes run command A a → (found : Refusal) → IsRefusalOf (scale_of command) A a found
+      → IsRefusedOrStopped ended found
+  pub b_unasked : (a : List ℕ) → HasBytes run command A a → (found : Refusal) → IsRefusalOf (scale_of command) A a found
+      → run.inputs_after.asked B ≡ None
   -- Where a side has a refusal nothing is written, whatever the status and the other side.
   pub unwritten : (side : Which) (bytes : List ℕ) → HasBytes run command side bytes
       → (found : Refusal) → IsRefusalOf (scale_of command) side bytes found → IsUnwritten run

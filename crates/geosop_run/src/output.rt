@@ -115,7 +115,8 @@ fn offer_shape_fault<E: Sink>(
     kind: InvalidKind,
     element: u32,
 ) -> Result<(), Failed>
-    ensures offered { IsOffered result (E.seen err.old) (E.seen err.new) (concat (refusal_pieces (Refusal.Shape side number kind element))) }
+    ensures offered { IsOffered result (E.seen err.old) (E.seen err.new)
+        (concat (refusal_pieces (Refusal.Shape side number kind element))) }
 {
     let mut number_buffer = Buffer::new();
     let mut element_buffer = Buffer::new();

@@ -8,6 +8,6 @@ abbrev pub invariant-loop-of_b : goal.invariant-loop-of_b
 invariant-loop-of_b g l = record {
   same_a : l.of_a.figure ≡ l.a;
   same_b : map (λ b. b.figure) l.in_b ≡ map (λ b. b.figure) l.fn.in_b;
-  lines : HasTakenParts (IsLineOf l.asked.rule l.asked.query l.a) (take l.of_b-index (map (λ b. b.figure) l.fn.in_b)) (g.O.Sink.seen l.fn.out)
-      (g.O.Sink.seen l.out);
+  lines : HasTakenParts (IsLineOf l.asked.rule l.asked.query l.a) (take l.of_b-index (map (λ b. b.figure) l.fn.in_b))
+      (g.O.Sink.seen l.fn.out) (g.O.Sink.seen l.out);
 }

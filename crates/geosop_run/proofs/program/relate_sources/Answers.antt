@@ -56,7 +56,8 @@ returns-in_err-offer_pairs g c =
           c.admit_side.ensures.others c.admit_side.ensures.asked c.in_ok-in_a.in_a c.in_ok-in_a.ensures.ok c.in_ok-in_a.ensures.uncounted
           (g.I.Inputs.seen c.admit_side-2.new.inputs) c.admit_side-2.ensures.others c.admit_side-2.ensures.asked
           c.in_ok-in_b.in_b c.in_ok-in_b.ensures.ok c.in_ok-in_b.ensures.uncounted (g.O.Sink.seen c.offer_pairs.new.out) lines.text
-          (same_text lines.text c.as_slice.ensures.items c.as_slice-2.ensures.items lines.is_text) c.in_err-offer_pairs.field-0.0 lines.written;
+          (same_text lines.text c.as_slice.ensures.items c.as_slice-2.ensures.items lines.is_text)
+          c.in_err-offer_pairs.field-0.0 lines.written;
     })
 
 pub returns : goal.returns

@@ -10,7 +10,8 @@ returns-clause-err g c =
     let before = g.I.Inputs.seen c.args.inputs.now in
     let after = g.I.Inputs.seen c.read_side.new.inputs in
     let items = c.in_ok-bytes.bytes.items in
-    IfErr-weaker c.admit_figures.result (IsTextFault c.args.scale.digits c.args.side c.as_slice.result.now) (IsSideFault c.args.scale.digits c.args.side c.args.source before after)
+    IfErr-weaker c.admit_figures.result (IsTextFault c.args.scale.digits c.args.side c.as_slice.result.now)
+    (IsSideFault c.args.scale.digits c.args.side c.args.source before after)
     (λ e h. figures_fault c.args.scale.digits c.args.side c.args.source items before after e c.in_ok-bytes.ensures.ok
     (subst (λ bytes. IsTextFault c.args.scale.digits c.args.side bytes e) c.as_slice.ensures.value h))
     c.admit_figures.ensures.fault
