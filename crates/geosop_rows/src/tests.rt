@@ -1,5 +1,6 @@
 ghost use Rattle.std.specs.Prelude.{◌≡◌, None};
 
+use geom_valid::InvalidKind;
 use geosop_io::{MemInputs, MemSink, NamedBytes};
 use geosop_run::{Free, Gate, Refusal, Status, UsageFault, run};
 use im_matrix::Which;
@@ -34,10 +35,19 @@ fn words_of(alloc: Global, list: &[&str]) -> Result<Vec<String>, AllocError> {
     Ok(words)
 }
 
+const PARCELS: &str = "POLYGON ((1000 2000, 1040 2000, 1040 2025, 1000 2025, 1000 2000))
+MULTIPOLYGON (((1040 2000, 1080 2000, 1080 2025, 1040 2025, 1040 2000)), ((1080 2025, 1120 2025, 1120 2050, 1080 2050, 1080 2025)))
+";
+
 fn files_of(alloc: Global) -> Result<NamedBytes, NoMemory> {
     let mut files = NamedBytes::new(alloc);
     files.add("two.wkt", b"POINT (0 0)\nPOINT (1 1)\n")?;
     files.add("empty.wkt", b"")?;
+    files.add("parcels.wkt", PARCELS.as_bytes())?;
+    files.add(
+        "roads.wkt",
+        b"LINESTRING (990 2012, 1050 2012)\nLINESTRING (1000.0 2000.0, 1040.0 2000.0)\n",
+    )?;
     files.add("stdin", b"POINT (1 1)")?;
     Ok(files)
 }
@@ -112,35 +122,124 @@ fn refuses<R: Threads + Sync + AllocGlobal>(
     Ok(relate(rt, a, b)?.is(Status::Refused(refusal), "", line))
 }
 
+/// A, B and the lines that come of them.
+type Row<'a> = (&'a str, &'a str, &'a str);
+
+// Whether each row is related so.
+fn all_relate<R: Threads + Sync + AllocGlobal>(rt: &R, rows: &[Row<'_>]) -> Result<bool, NoMemory> {
+    for (a, b, lines) in rows {
+        if !relates(rt, a, b, lines)? {
+            return Ok(false);
+        }
+    }
+    Ok(true)
+}
+
+const S4: &str = "POLYGON ((0 0, 4 0, 4 4, 0 4, 0 0))";
+
+const T4: &str = "POLYGON ((4 0, 8 0, 8 4, 4 4, 4 0))";
+
+const BOTH_SQUARES: &str =
+    "GEOMETRYCOLLECTION (POLYGON ((0 0, 4 0, 4 4, 0 4, 0 0)), POLYGON ((4 0, 8 0, 8 4, 4 4, 4 0)))";
+
+const POINTS: [Row<'static>; 6] = [
+    ("POINT (0 0)", "POINT (1 1)", "FF0FFF0F2\n"),
+    ("POINT (0 0)", "MULTIPOINT ((0 0), (0 0))", "0FFFFFFF2\n"),
+    ("POINT EMPTY", "MULTIPOINT EMPTY", "FFFFFFFF2\n"),
+    ("MULTIPOINT (0 0, (1 1))", "POINT (1 1)", "0F0FFFFF2\n"),
+    (
+        "POINT (1048575.0 0)",
+        "POINT (1.048575e6 -0)",
+        "0FFFFFFF2\n",
+    ),
+    (
+        "POINT Z (1 2 3)",
+        "multipoint (1 2, (1 2 NaN), EMPTY)",
+        "0FFFFFFF2\n",
+    ),
+];
+
 #[test]
 fn pairs_of_points(rt: HostRuntime) -> Result<(), Fail> {
-    assert!(rt; relates(&rt, "POINT (0 0)", "POINT (1 1)", "FF0FFF0F2\n")?);
-    assert!(rt;
-        relates(
-            &rt,
-            "POINT (0 0)",
-            "MULTIPOINT ((0 0), (0 0))",
-            "0FFFFFFF2\n"
-        )?
-    );
-    assert!(rt; relates(&rt, "POINT EMPTY", "MULTIPOINT EMPTY", "FFFFFFFF2\n")?);
-    assert!(rt; relates(&rt, "MULTIPOINT (0 0, (1 1))", "POINT (1 1)", "0F0FFFFF2\n")?);
-    assert!(rt;
-        relates(
-            &rt,
-            "POINT (1048575.0 0)",
-            "POINT (1.048575e6 -0)",
-            "0FFFFFFF2\n"
-        )?
-    );
-    assert!(rt;
-        relates(
-            &rt,
-            "POINT Z (1 2 3)",
-            "multipoint (1 2, (1 2 NaN), EMPTY)",
-            "0FFFFFFF2\n"
-        )?
-    );
+    assert!(rt; all_relate(&rt, &POINTS)?);
+    Ok(())
+}
+
+const LINES: [Row<'static>; 6] = [
+    (
+        "LINESTRING (0 0, 4 0, 4 4, 0 0)",
+        "POINT (0 0)",
+        "0F1FFFFF2\n",
+    ),
+    (
+        "MULTILINESTRING ((0 0, 1 0), (0 0, 0 1), (0 0, -1 0))",
+        "POINT (0 0)",
+        "FF10F0FF2\n",
+    ),
+    (
+        "LINESTRING (0 0, 1 1)",
+        "LINESTRING (0 1, 1 0)",
+        "0F1FF0102\n",
+    ),
+    (
+        "LINESTRING (-1048575 -1048575, 1048575 1048574)",
+        "LINESTRING (-1048575 -1048574, 1048575 1048573)",
+        "0F1FF0102\n",
+    ),
+    ("LINESTRING (2 2, 2 2)", "POINT (2 2)", "0FFFFFFF2\n"),
+    (S4, "LINESTRING (0 0, 4 0)", "FF2101FF2\n"),
+];
+
+#[test]
+fn pairs_with_lines(rt: HostRuntime) -> Result<(), Fail> {
+    assert!(rt; all_relate(&rt, &LINES)?);
+    Ok(())
+}
+
+const AREAS: [Row<'static>; 6] = [
+    ("POINT EMPTY", S4, "FFFFFF212\n"),
+    ("POINT EMPTY", "GEOMETRYCOLLECTION EMPTY", "FFFFFFFF2\n"),
+    (S4, "POLYGON ((2 2, 6 2, 6 6, 2 6, 2 2))", "212101212\n"),
+    (S4, T4, "FF2F11212\n"),
+    (
+        "POLYGON ((0 0, 9 0, 9 9, 0 9, 0 0), (3 3, 6 3, 6 6, 3 6, 3 3))",
+        "POLYGON ((3 3, 6 3, 6 6, 3 6, 3 3))",
+        "FF2F112F2\n",
+    ),
+    (
+        S4,
+        "POLYGON ((4 4, 4 4, 4 0, 2 0, 0 0, 0 4, 4 4))",
+        "2FFF1FFF2\n",
+    ),
+];
+
+#[test]
+fn pairs_of_areas(rt: HostRuntime) -> Result<(), Fail> {
+    assert!(rt; all_relate(&rt, &AREAS)?);
+    Ok(())
+}
+
+const COLLECTIONS: [Row<'static>; 3] = [
+    (BOTH_SQUARES, "POINT (4 2)", "0F2FF1FF2\n"),
+    (BOTH_SQUARES, "POINT (4 0)", "FF20F1FF2\n"),
+    (
+        "GEOMETRYCOLLECTION (POLYGON ((0 0, 4 0, 4 4, 0 4, 0 0)), LINESTRING (1 1, 2 2))",
+        "POINT (1 1)",
+        "0F2FF1FF2\n",
+    ),
+];
+
+// An edge that two areas share is inside their union, its ends stay boundary, and an area hides a line's end.
+#[test]
+fn collections_are_unions(rt: HostRuntime) -> Result<(), Fail> {
+    assert!(rt; all_relate(&rt, &COLLECTIONS)?);
+    Ok(())
+}
+
+#[test]
+fn parcels_and_roads(rt: HostRuntime) -> Result<(), Fail> {
+    let lines = "1F20F1102\nFF2101FF2\n1020F1102\nFF2F01102\n";
+    assert!(rt; relates(&rt, "parcels.wkt", "roads.wkt", lines)?);
     Ok(())
 }
 
@@ -157,20 +256,27 @@ fn sources_by_name(rt: HostRuntime) -> Result<(), Fail> {
 
 #[test]
 fn first_refusals(rt: HostRuntime) -> Result<(), Fail> {
-    let unbuilt = Refusal::Unbuilt(Which::B, 2);
-    assert!(rt;
-        refuses(
-            &rt,
-            "POINT (0 0)",
-            "POINT (1 1) LINESTRING EMPTY",
-            unbuilt,
-            "geosop: B 2: Unbuilt\n"
-        )?
-    );
     let unknown = Refusal::Text(Which::A, 2, WktKind::UnknownType, 12);
     let line = "geosop: A 2: UnknownType at 12\n";
     assert!(rt; refuses(&rt, "POINT (0 0) x", "POINT (0 0)", unknown, line)?);
     assert!(rt; refuses(&rt, "POINT (0 0) x", "POINT (", unknown, line)?);
+    let syntax = Refusal::Text(Which::A, 1, WktKind::Syntax, 24);
+    let unfinished = "POLYGON ((0 0, 4 4, 4 0,";
+    assert!(rt; refuses(&rt, unfinished, S4, syntax, "geosop: A 1: Syntax at 24\n")?);
+    Ok(())
+}
+
+#[test]
+fn refused_shapes(rt: HostRuntime) -> Result<(), Fail> {
+    let cross = Refusal::Shape(Which::A, 1, InvalidKind::RingCross, 1);
+    let bow = "POLYGON ((0 0, 4 4, 4 0, 0 4, 0 0))";
+    let line = "geosop: A 1: RingCross in element 1\n";
+    assert!(rt; refuses(&rt, bow, S4, cross, line)?);
+    assert!(rt; refuses(&rt, bow, "missing.wkt", cross, line)?);
+    let share = Refusal::Shape(Which::A, 1, InvalidKind::ElementsShareEdge, 2);
+    let squares = "MULTIPOLYGON (((0 0, 4 0, 4 4, 0 4, 0 0)), ((4 0, 8 0, 8 4, 4 4, 4 0)))";
+    let line = "geosop: A 1: ElementsShareEdge in element 2\n";
+    assert!(rt; refuses(&rt, squares, "POINT (4 2)", share, line)?);
     Ok(())
 }
 

@@ -13,7 +13,7 @@ use Rattle.geosop_run.specs.declared.status.Status.TheVariants as status
 use Rattle.geosop_run.specs.Command.{IsCommandOf, IsUsageFault}
 use Rattle.geosop_run.specs.Asking.{side_of}
 use Rattle.geosop_run.specs.Sources.{IsRefusalOf, IsAdmitted, IsFirstRefusal}
-use Rattle.geosop_run.specs.Run.{Run, HasBytes, HasText, HasComeTo, IsUnwritten, OfCommand, SaysOf, IsAskedRightly, IsLastAsked, IsRefusedOrStopped, IsRun}
+use Rattle.geosop_run.specs.Run.{Run, scale_of, HasBytes, HasText, HasComeTo, IsUnwritten, OfCommand, SaysOf, IsAskedRightly, IsLastAsked, IsRefusedOrStopped, IsRun}
 use Rattle.geosop_run.proofs.OneCommand.{one_command, command_or_usage, one_usage}
 use Rattle.geosop_run.proofs.OneAnswer.{both_admitted, one_refusal, one_first_refusal, admitted_not_refused}
 
@@ -45,37 +45,40 @@ module _ (run : Run) where
   module _ (command : Config) (is : IsCommandOf run.words command) where
     -- a side that is admitted has no refusal
     no_refusal : (text : List ℕ) → HasText run command text → (side : Which) (bytes : List ℕ) → HasBytes run command side bytes
-        → (found : Refusal) → IsRefusalOf side bytes found → ⊥
-    no_refusal text h A bytes told found refusal = admitted_not_refused A bytes h.in_a found (h.admitted_a.admitted bytes told) refusal
-    no_refusal text h B bytes told found refusal = admitted_not_refused B bytes h.in_b found (h.admitted_b.admitted bytes told) refusal
+        → (found : Refusal) → IsRefusalOf (scale_of command) side bytes found → ⊥
+    no_refusal text h A bytes told found refusal =
+        admitted_not_refused (scale_of command) A bytes h.in_a found (h.admitted_a.admitted bytes told) refusal
+    no_refusal text h B bytes told found refusal =
+        admitted_not_refused (scale_of command) B bytes h.in_b found (h.admitted_b.admitted bytes told) refusal
 
     -- two sides that are admitted have no first refusal
     no_first : (text : List ℕ) → HasText run command text → (a b : List ℕ) → HasBytes run command A a → HasBytes run command B b
-        → (found : Refusal) → IsFirstRefusal a b found → ⊥
+        → (found : Refusal) → IsFirstRefusal (scale_of command) a b found → ⊥
     no_first text h a b told_a told_b found first =
-        both_admitted a b h.in_a h.in_b found (h.admitted_a.admitted a told_a) (h.admitted_b.admitted b told_b) first
+        both_admitted (scale_of command) a b h.in_a h.in_b found (h.admitted_a.admitted a told_a) (h.admitted_b.admitted b told_b) first
 
     completes : (ended : Status) → SaysOf run ended → (a b : List ℕ) → HasBytes run command A a → HasBytes run command B b
         → (in_a in_b : List Figure)
-        → IsAdmitted a in_a → IsAdmitted b in_b
+        → IsAdmitted (scale_of command) a in_a → IsAdmitted (scale_of command) b in_b
         → (¬ IsRisen run.inputs_before.faults run.inputs_after.faults) → (¬ IsRisen run.output_before.faults run.output_after.faults)
         → (ended ≡ status.Ok) ⊎ (ended ≡ status.NoMemory)
     completes status.Ok says a b told_a told_b in_a in_b h k reads writes = inl refl
     completes (status.Usage other) says a b told_a told_b in_a in_b h k reads writes =
         absurd (command_or_usage run.words command other is says.first)
     completes (status.Refused found) says a b told_a told_b in_a in_b h k reads writes =
-        let s = of_this _ command is says in absurd (both_admitted a b in_a in_b found h k (s.first a b told_a told_b))
+        let s = of_this _ command is says in absurd (both_admitted (scale_of command) a b in_a in_b found h k (s.first a b told_a told_b))
     completes status.ReadFault says a b told_a told_b in_a in_b h k reads writes = absurd (reads (risen _ _ says.holds.unreadable.counted))
     completes status.WriteFault says a b told_a told_b in_a in_b h k reads writes = absurd (writes (failed_risen _ _ _ says.holds.front))
     completes status.NoMemory says a b told_a told_b in_a in_b h k reads writes = inr refl
 
     refusal_comes : (ended : Status) → SaysOf run ended → (a b : List ℕ) → HasBytes run command A a → HasBytes run command B b
-        → (found : Refusal) → IsFirstRefusal a b found → IsRefusedOrStopped ended found
+        → (found : Refusal) → IsFirstRefusal (scale_of command) a b found → IsRefusedOrStopped ended found
     refusal_comes status.Ok says a b told_a told_b found first =
         let s = of_this _ command is says in absurd (no_first s.text s.of_pairs a b told_a told_b found first)
     refusal_comes (status.Usage other) says a b told_a told_b found first = absurd (command_or_usage run.words command other is says.first)
     refusal_comes (status.Refused other) says a b told_a told_b found first =
-        let s = of_this _ command is says in inl (ap status.Refused (one_first_refusal a b other found (s.first a b told_a told_b) first))
+        let s = of_this _ command is says in
+        inl (ap status.Refused (one_first_refusal (scale_of command) a b other found (s.first a b told_a told_b) first))
     refusal_comes status.ReadFault says a b told_a told_b found first = inr (inl refl)
     refusal_comes status.WriteFault says a b told_a told_b found first =
         let s = of_this _ command is says in absurd (no_first s.text s.of_pairs a b told_a told_b found first)
@@ -83,22 +86,23 @@ module _ (run : Run) where
 
     -- what is refused is the refusal of A
     refused_in_a : (other : Refusal) → SaysOf run (status.Refused other) → (a : List ℕ) → HasBytes run command A a → (found : Refusal)
-        → IsRefusalOf A a found
+        → IsRefusalOf (scale_of command) A a found
         → other ≡ found
     refused_in_a other says a told found refusal = by_side (side_of other) refl
       where
         by_side : (side : Which) → side_of other ≡ side → other ≡ found
         by_side A e =
             let s = of_this _ command is says in
-            let Refuses : Which → Type 0 = λ side. (bytes : List ℕ) → HasBytes run command side bytes → IsRefusalOf side bytes other in
-            one_refusal A a other found (subst Refuses e s.refused.refusal a told) refusal
+            let Refuses : Which → Type 0 = λ side. (bytes : List ℕ) → HasBytes run command side bytes
+            → IsRefusalOf (scale_of command) side bytes other in
+            one_refusal (scale_of command) A a other found (subst Refuses e s.refused.refusal a told) refusal
         by_side B e =
             let s = of_this _ command is says in
             let come : HasComeTo run command B = subst (HasComeTo run command) e s.come in
-            absurd (admitted_not_refused A a come.0 found (come.1.admitted a told) refusal)
+            absurd (admitted_not_refused (scale_of command) A a come.0 found (come.1.admitted a told) refusal)
 
     refusal_of_a_comes : (ended : Status) → SaysOf run ended → (a : List ℕ) → HasBytes run command A a → (found : Refusal)
-        → IsRefusalOf A a found
+        → IsRefusalOf (scale_of command) A a found
         → IsRefusedOrStopped ended found
     refusal_of_a_comes status.Ok says a told found refusal =
         let s = of_this _ command is says in absurd (no_refusal s.text s.of_pairs A a told found refusal)
@@ -110,15 +114,16 @@ module _ (run : Run) where
         let s = of_this _ command is says in absurd (no_refusal s.text s.of_pairs A a told found refusal)
     refusal_of_a_comes status.NoMemory says a told found refusal = inr (inr refl)
 
-    b_unasked : IsLastAsked run → (a : List ℕ) → HasBytes run command A a → (found : Refusal) → IsRefusalOf A a found
+    b_unasked : IsLastAsked run → (a : List ℕ) → HasBytes run command A a → (found : Refusal) → IsRefusalOf (scale_of command) A a found
         → run.inputs_after.asked B ≡ None
     b_unasked last a told found refusal = elim last [
       | inl none ↦ none
-      | inr admitted ↦ (let s = of_this _ command is admitted in absurd (admitted_not_refused A a s.0 found (s.1.admitted a told) refusal))
+      | inr admitted ↦ (let s = of_this _ command is admitted in
+          absurd (admitted_not_refused (scale_of command) A a s.0 found (s.1.admitted a told) refusal))
     ]
 
     unwritten : (ended : Status) → SaysOf run ended → (side : Which) (bytes : List ℕ) → HasBytes run command side bytes
-        → (found : Refusal) → IsRefusalOf side bytes found → IsUnwritten run
+        → (found : Refusal) → IsRefusalOf (scale_of command) side bytes found → IsUnwritten run
     unwritten status.Ok says side bytes told found refusal =
         let s = of_this _ command is says in absurd (no_refusal s.text s.of_pairs side bytes told found refusal)
     unwritten (status.Usage other) says side bytes told found refusal = says.unwritten

@@ -1,11 +1,10 @@
-pub mod PointMatrix
-pub mod Tabulated
+pub mod Kept
 pub mod Parts
-pub mod PointLines
+pub mod SomeText
 pub mod Words
+pub mod ReadOnward
 pub mod SourceSteps
 pub mod OneCommand
-pub mod PointTexts
 pub mod OneAnswer
 pub mod SideFaults
 pub mod Completeness

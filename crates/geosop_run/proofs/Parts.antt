@@ -4,27 +4,47 @@ use Rattle.std.specs.List.{All, flat_map}
 use Rattle.std.proofs.lemmas.List.{take_more, drop_more, take_all, take_at, drop_at, take-append-drop, take-append-le, append-nil}
 use Rattle.std.proofs.lemmas.List.Elements.{All-head, All-tail}
 use Rattle.std.proofs.Math.Seq.{take-add}
-use Rattle.geosop_io.specs.Sink.{SinkSeen, HasFailedAt, after_taking, after_fault}
+use Rattle.geosop_io.specs.Sink.{SinkSeen, HasTakenFront, HasFailedAt, after_taking, after_fault}
 use Rattle.geosop_io.proofs.Laws.{after_taking-nil, after_taking-append}
-use Rattle.geosop_run.specs.Text.{IsTextOfEach, IsTextOffered}
+use Rattle.geosop_run.specs.declared.pairs.PairFault.{PairFault}
+use Rattle.geosop_run.specs.declared.pairs.PairFault.TheVariants as fault
+use Rattle.geosop_run.specs.Text.{IsTextOfEach, IsWritten, IsTextWritten}
+
+-- a front of one more part is a front of all of the text
+front_within : (before part after : List ℕ) (count : ℕ) → count ≤ length part
+    → take (length before + count) (before ++ (part ++ after)) ≡ before ++ take count part
+front_within before part after count within =
+    let all = before ++ (part ++ after) in
+    take-add (length before) count all
+    ∙ (λ j. take_at before (part ++ after) (length before) refl j
+    ++ take count (drop_at before (part ++ after) (length before) refl j))
+    ∙ ap (λ more. before ++ more) (take-append-le count part after within)
+
+-- what is taken of one more part is taken behind what was taken before
+taken_within : (old middle : SinkSeen) (before part after : List ℕ) (count : ℕ) → count ≤ length part → middle ≡ after_taking old before
+    → after_taking middle (take count part) ≡ after_taking old (take (length before + count) (before ++ (part ++ after)))
+taken_within old middle before part after count within taken =
+    ap (λ seen. after_taking seen (take count part)) taken ∙ after_taking-append old before (take count part)
+    ∙ ap (after_taking old) (sym (front_within before part after count within))
 
 -- a failure within one more part is one within all of the text
 failed_within : (old middle new : SinkSeen) (before part after : List ℕ) → middle ≡ after_taking old before
     → HasFailedAt middle new part → HasFailedAt old new (before ++ (part ++ after))
-failed_within old middle new before part after taken failed =
-    let all = before ++ (part ++ after) in
-    let front : take (length before + failed.count) all ≡ before ++ take failed.count part
-    = take-add (length before) failed.count all
-    ∙ (λ j. take_at before (part ++ after) (length before) refl j
-    ++ take failed.count (drop_at before (part ++ after) (length before) refl j))
-    ∙ ap (λ more. before ++ more) (take-append-le failed.count part after failed.within) in
-    record {
-      count = length before + failed.count;
-      within = omega (arith, length-append before (part ++ after), length-append part after, failed.within);
-      taken = failed.taken
-          ∙ ap (λ seen. after_fault (after_taking seen (take failed.count part))) taken
-          ∙ ap after_fault (after_taking-append old before (take failed.count part) ∙ ap (after_taking old) (sym front));
-    }
+failed_within old middle new before part after taken failed = record {
+  count = length before + failed.count;
+  within = omega (arith, length-append before (part ++ after), length-append part after, failed.within);
+  taken = failed.taken ∙ ap after_fault (taken_within old middle before part after failed.count failed.within taken);
+}
+
+-- whatever ended the writing within one more part ended it within all of the text
+ended_within : (e : PairFault) (old middle new : SinkSeen) (before part after : List ℕ) → middle ≡ after_taking old before
+    → IsWritten (Err e) middle new part → IsWritten (Err e) old new (before ++ (part ++ after))
+ended_within fault.WriteFault old middle new before part after taken h = failed_within old middle new before part after taken h
+ended_within fault.NoMemory old middle new before part after taken h = record {
+  count = length before + h.count;
+  within = omega (arith, length-append before (part ++ after), length-append part after, h.within);
+  taken = h.taken ∙ taken_within old middle before part after h.count h.within taken;
+}
 
 module _ {X : Type 0} (IsPart : X → List ℕ → Type 0) where
   -- the parts of one list behind those of another
@@ -75,50 +95,48 @@ module _ {X : Type 0} (IsPart : X → List ℕ → Type 0) where
   pub taken_all : (xs : List X) (i : ℕ) (old new : SinkSeen) → length xs ≤ i → HasTakenParts (take i xs) old new → HasTakenParts xs old new
   taken_all xs i old new h taken = subst (λ items. HasTakenParts items old new) (take_all i xs h) taken
 
-  -- a failure came within one more part, and the rest has parts too
-  pub failed_at : (xs : List X) (i : ℕ) (d x : X) (old middle new : SinkSeen) (part : List ℕ) → x ≡ get_or xs i d → i < length xs
-      → HasTakenParts (take i xs) old middle → IsPart x part → HasFailedAt middle new part
-      → (rest : (text : List ℕ) × IsTextOfEach IsPart (drop (i + 1) xs) text)
-      → (text : List ℕ) × IsTextOfEach IsPart xs text × HasFailedAt old new text
-  failed_at xs i d x old middle new part is h before is_part failed rest =
-      let all = before.text ++ (part ++ rest.0) in
+  -- the parts of all items are those before one, its own, and those behind it
+  pub parts_around : (xs : List X) (i : ℕ) (d x : X) (before part rest : List ℕ) → x ≡ get_or xs i d → i < length xs
+      → IsTextOfEach IsPart (take i xs) before → IsPart x part → IsTextOfEach IsPart (drop (i + 1) xs) rest
+      → IsTextOfEach IsPart xs (before ++ (part ++ rest))
+  parts_around xs i d x before part rest is h in_front is_part behind =
       let item = get_or xs i d in
       let whole : take i xs ++ (item ∷ drop (i + 1) xs) ≡ xs
-      = ap (λ behind. take i xs ++ behind) (sym (drop_more xs i d h)) ∙ take-append-drop i xs in (
-        all,
-        subst (λ items. IsTextOfEach IsPart items all) whole
-            (parts-append (take i xs) (item ∷ drop (i + 1) xs) before.text (part ++ rest.0) before.is_text
-            (record {
-              first = part;
-              rest = rest.0;
-              is_first = subst (λ y. IsPart y part) is is_part;
-              is_rest = rest.1;
-              joined = refl;
-            })),
-        failed_within old middle new before.text part rest.0 before.taken failed,
-      )
-
-abbrev pub done : {E : Type 0} → Result (Unit {0}) E
-done = Ok tt
-
-abbrev pub failed_by : {E : Type 0} → E → Result (Unit {0}) E
-failed_by e = Err e
+      = ap (λ behind. take i xs ++ behind) (sym (drop_more xs i d h)) ∙ take-append-drop i xs in
+      subst (λ items. IsTextOfEach IsPart items (before ++ (part ++ rest))) whole
+      (parts-append (take i xs) (item ∷ drop (i + 1) xs) before (part ++ rest) in_front
+      (record {
+        first = part;
+        rest = rest;
+        is_first = subst (λ y. IsPart y part) is is_part;
+        is_rest = behind;
+        joined = refl;
+      }))
 
 -- all parts were taken
-pub text_offered : {X E : Type 0} (IsPart : X → List ℕ → Type 0) (xs : List X) (i : ℕ) (old new : SinkSeen) → length xs ≤ i
-    → HasTakenParts IsPart (take i xs) old new → IsTextOffered (IsTextOfEach IsPart xs) (done {E = E}) old new
-text_offered IsPart xs i old new h taken =
-    let all = taken_all IsPart xs i old new h taken in
-    record { text = all.text; is_text = all.is_text; offered = record { whole = all.taken; front = tt } }
+pub text_written : {X : Type 0} (IsPart : X → List ℕ → Type 0) (xs : List X) (i : ℕ) (old new : SinkSeen) → length xs ≤ i
+    → HasTakenParts IsPart (take i xs) old new → IsTextWritten (IsTextOfEach IsPart xs) (Ok tt) old new
+text_written IsPart xs i old new h taken =
+    let all = taken_all IsPart xs i old new h taken in record { text = all.text; is_text = all.is_text; written = all.taken }
 
--- a failure came within one part
-pub text_failed : {X E : Type 0} (e : E) (IsPart : X → List ℕ → Type 0) (xs : List X) (i : ℕ) (d x : X) (old middle new : SinkSeen)
-    (part : List ℕ)
-    → x ≡ get_or xs i d → i < length xs → HasTakenParts IsPart (take i xs) old middle → IsPart x part → HasFailedAt middle new part
-    → (rest : (text : List ℕ) × IsTextOfEach IsPart (drop (i + 1) xs) text) → IsTextOffered (IsTextOfEach IsPart xs) (failed_by e) old new
-text_failed e IsPart xs i d x old middle new part is h before is_part failed rest =
-    let all = failed_at IsPart xs i d x old middle new part is h before is_part failed rest in
-    record { text = all.0; is_text = all.1; offered = record { whole = tt; front = all.2 } }
+-- the writing ended within one part, and the rest has parts too
+pub text_ended : {X : Type 0} (e : PairFault) (IsPart : X → List ℕ → Type 0) (xs : List X) (i : ℕ) (d x : X) (old middle new : SinkSeen)
+    → x ≡ get_or xs i d → i < length xs → HasTakenParts IsPart (take i xs) old middle → IsTextWritten (IsPart x) (Err e) middle new
+    → (rest : (text : List ℕ) × IsTextOfEach IsPart (drop (i + 1) xs) text) → IsTextWritten (IsTextOfEach IsPart xs) (Err e) old new
+text_ended e IsPart xs i d x old middle new is h before part rest = record {
+  text = before.text ++ (part.text ++ rest.0);
+  is_text = parts_around IsPart xs i d x before.text part.text rest.0 is h before.is_text part.is_text rest.1;
+  written = ended_within e old middle new before.text part.text rest.0 before.taken part.written;
+}
+
+-- nothing was written of a text that there is, for want of memory
+pub text_unbegun : (IsText : List ℕ → Type 0) (seen : SinkSeen) → (text : List ℕ) × IsText text
+    → IsTextWritten IsText (Err fault.NoMemory) seen seen
+text_unbegun IsText seen some = record {
+  text = some.0;
+  is_text = some.1;
+  written = record { count = 0; within = omega arith; taken = after_taking-nil seen };
+}
 
 -- where each part is a function of its item, the text is theirs
 flat_text : {X : Type 0} (f : X → List ℕ) (xs : List X) (text : List ℕ) → IsTextOfEach (λ x part. part ≡ f x) xs text → text ≡ flat_map f xs
@@ -134,5 +152,7 @@ pub failed_flat : {X : Type 0} (f : X → List ℕ) (xs : List X) (i : ℕ) (d x
     → HasTakenParts (λ x part. part ≡ f x) (take i xs) old middle → HasFailedAt middle new (f x) → HasFailedAt old new (flat_map f xs)
 failed_flat f xs i d x old middle new is h before failed =
     let rest = some_text (λ x part. part ≡ f x) (drop (i + 1) xs) (λ k e below. (f (get_or (drop (i + 1) xs) k e), refl)) in
-    let all = failed_at (λ x part. part ≡ f x) xs i d x old middle new (f x) is h before refl failed rest in
-    subst (λ text. HasFailedAt old new text) (flat_text f xs all.0 all.1) all.2
+    let text = before.text ++ (f x ++ rest.0) in
+    subst (λ text. HasFailedAt old new text)
+    (flat_text f xs text (parts_around (λ x part. part ≡ f x) xs i d x before.text (f x) rest.0 is h before.is_text refl rest.1))
+    (failed_within old middle new before.text (f x) rest.0 before.taken failed)

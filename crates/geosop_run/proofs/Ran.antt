@@ -1,18 +1,19 @@
 -- The steps of a run, put together.
-use Rattle.std.proofs.Common.{◌≡◌, ℕ, ◌≤◌, List, None, inl, inr, refl, sym, ap, subst, ◌∙◌}
+use Rattle.std.proofs.Common.{◌≡◌, ℕ, ◌≤◌, List, None, Err, inl, inr, refl, sym, ap, subst, ◌∙◌}
 use Rattle.std.specs.Io.KnownBytes.{IsAtEnd}
 use Rattle.im_matrix.specs.declared.Which.{Which}
 use Rattle.im_matrix.specs.declared.Which.TheVariants.{A, B}
 use Rattle.point_set.specs.declared.figure.Figure.{Figure}
-use Rattle.point_set.specs.declared.rule.Rule.TheVariants.{Mod2}
 use Rattle.geosop_io.specs.Counts.{one_more}
 use Rattle.geosop_io.specs.Inputs.{InputsSeen, KeepsOthers, IsSameSide}
-use Rattle.geosop_io.specs.Sink.{SinkSeen, HasFailedAt, after_taking}
+use Rattle.geosop_io.specs.Sink.{SinkSeen, after_taking}
 use Rattle.geosop_run.specs.declared.config.Config.{Config}
 use Rattle.geosop_run.specs.declared.config.LineFault.{LineFault}
 use Rattle.geosop_run.specs.declared.config.LineFault.TheVariants as line
 use Rattle.geosop_run.specs.declared.config.Source.{Source}
 use Rattle.geosop_run.specs.declared.config.Source.TheVariants as source
+use Rattle.geosop_run.specs.declared.pairs.PairFault.{PairFault}
+use Rattle.geosop_run.specs.declared.pairs.PairFault.TheVariants as pair
 use Rattle.geosop_run.specs.declared.sources.SideFault.{SideFault}
 use Rattle.geosop_run.specs.declared.sources.SideFault.TheVariants as fault
 use Rattle.geosop_run.specs.declared.status.Refusal.{Refusal}
@@ -20,9 +21,9 @@ use Rattle.geosop_run.specs.declared.status.Status.TheVariants as status
 use Rattle.geosop_run.specs.Command.{IsCommandOf, IsCommandFault}
 use Rattle.geosop_run.specs.Asking.{IfNamed, bytes_of, IsAskedOrNot, IsAdmittedFrom, IsReadToEnd, IsRefusedFrom, IsSideFault, side_of}
 use Rattle.geosop_run.specs.Sources.{most_bytes, IsRefusalOf, IsFirstRefusal}
-use Rattle.geosop_run.specs.Statuses.{status_of_words, status_of_side}
-use Rattle.geosop_run.specs.Text.{IsTextOf}
-use Rattle.geosop_run.specs.Run.{Run, source_of_side, HasBytes, IsAdmittedAs, IsUnwritten, HasText, HasComeTo, SaysOf, IsAskedRightly, IsLastAsked, IsRun}
+use Rattle.geosop_run.specs.Statuses.{status_of_words, status_of_side, status_of_pairs}
+use Rattle.geosop_run.specs.Text.{IsTextOf, IsWritten}
+use Rattle.geosop_run.specs.Run.{Run, scale_of, rule_of, query_of, source_of_side, HasBytes, IsAdmittedAs, IsUnwritten, HasText, HasComeTo, SaysOf, IsAskedRightly, IsLastAsked, IsRun}
 use Rattle.geosop_run.proofs.Completeness.{run_of}
 
 -- ---- one side, while the other is read
@@ -44,33 +45,35 @@ read_stays side name old new same h = record {
 }
 
 -- a side that is admitted stays so
-admitted_stays : (side : Which) (from : Source) (before old new : InputsSeen) (figures : List Figure) → IsSameSide side old new
-    → IsAdmittedFrom side from before old figures → IsAdmittedFrom side from before new figures
-admitted_stays side from before old new figures same h = record {
+admitted_stays : (scale : ℕ) (side : Which) (from : Source) (before old new : InputsSeen) (figures : List Figure) → IsSameSide side old new
+    → IsAdmittedFrom scale side from before old figures → IsAdmittedFrom scale side from before new figures
+admitted_stays scale side from before old new figures same h = record {
   read = named_weaker from (λ name. IsReadToEnd side name old) (λ name. IsReadToEnd side name new)
       (λ name. read_stays side name old new same) h.read;
   admitted = h.admitted;
 }
 
 -- what is admitted later is admitted by what the names held before
-admitted_since : (side : Which) (from : Source) (before middle after : InputsSeen) (figures : List Figure) → middle.holds ≡ before.holds
-    → IsAdmittedFrom side from middle after figures → IsAdmittedFrom side from before after figures
-admitted_since side from before middle after figures same h = record {
+admitted_since : (scale : ℕ) (side : Which) (from : Source) (before middle after : InputsSeen) (figures : List Figure)
+    → middle.holds ≡ before.holds → IsAdmittedFrom scale side from middle after figures
+    → IsAdmittedFrom scale side from before after figures
+admitted_since scale side from before middle after figures same h = record {
   read = h.read;
   admitted = λ bytes told. h.admitted bytes (ap (λ holds. bytes_of holds from) same ∙ told);
 }
 
 -- and a fault of a side likewise
-fault_since : (side : Which) (from : Source) (before middle after : InputsSeen) (found : SideFault) → middle.holds ≡ before.holds
-    → middle.faults ≡ before.faults → IsSideFault side from middle after found → IsSideFault side from before after found
-fault_since side from before middle after (fault.Refused found) same uncounted h = (
+fault_since : (scale : ℕ) (side : Which) (from : Source) (before middle after : InputsSeen) (found : SideFault)
+    → middle.holds ≡ before.holds → middle.faults ≡ before.faults → IsSideFault scale side from middle after found
+    → IsSideFault scale side from before after found
+fault_since scale side from before middle after (fault.Refused found) same uncounted h = (
   h.0,
   record { read = h.1.read; refusal = λ bytes told. h.1.refusal bytes (ap (λ holds. bytes_of holds from) same ∙ told) },
   h.2 ∙ uncounted,
 )
-fault_since side from before middle after fault.ReadFault same uncounted h =
+fault_since scale side from before middle after fault.ReadFault same uncounted h =
     record { name = h.name; named = h.named; asked = h.asked; counted = h.counted ∙ ap one_more uncounted }
-fault_since side from before middle after fault.NoMemory same uncounted h = h ∙ uncounted
+fault_since scale side from before middle after fault.NoMemory same uncounted h = h ∙ uncounted
 
 -- ---- a run of a command
 module _ (run : Run) (command : Config) (is : IsCommandOf run.words command) where
@@ -85,25 +88,26 @@ module _ (run : Run) (command : Config) (is : IsCommandOf run.words command) whe
 
   -- the refusal of a side at which the run ended is the first
   first_refusal : (side : Which) (found : Refusal) → HasComeTo run command side
-      → ((bytes : List ℕ) → HasBytes run command side bytes → IsRefusalOf side bytes found)
-      → (a b : List ℕ) → HasBytes run command A a → HasBytes run command B b → IsFirstRefusal a b found
+      → ((bytes : List ℕ) → HasBytes run command side bytes → IsRefusalOf (scale_of command) side bytes found)
+      → (a b : List ℕ) → HasBytes run command A a → HasBytes run command B b → IsFirstRefusal (scale_of command) a b found
   first_refusal A found come refusal a b told_a told_b = inl (refusal a told_a)
   first_refusal B found come refusal a b told_a told_b =
       inr (record { figures = come.0; admitted = come.1.admitted a told_a; second = refusal b told_b })
 
   -- a run that ends at a side says why
   side_says : (side : Which) (found : SideFault) → HasComeTo run command side → IsUnwritten run
-      → IsSideFault side (source_of_side command side) run.inputs_before run.inputs_after found → SaysOf run (status_of_side found)
+      → IsSideFault (scale_of command) side (source_of_side command side) run.inputs_before run.inputs_after found
+      → SaysOf run (status_of_side found)
   side_says side (fault.Refused found) come unwritten h =
-      let Refuses : Which → Type 0 = λ s. (bytes : List ℕ) → HasBytes run command s bytes → IsRefusalOf (side_of found) bytes found in
-      let refusal : (bytes : List ℕ) → HasBytes run command side bytes → IsRefusalOf side bytes found
-      = λ bytes told. subst (λ s. IsRefusalOf s bytes found) h.0 (h.1.refusal bytes told) in
+      let refusal : (bytes : List ℕ) → HasBytes run command side bytes → IsRefusalOf (scale_of command) side bytes found
+      = λ bytes told. subst (λ s. IsRefusalOf (scale_of command) s bytes found) h.0 (h.1.refusal bytes told) in
       record {
         command = command;
         is_command = is;
         holds = record {
           come = subst (HasComeTo run command) (sym h.0) come;
-          refused = subst (λ s. IsRefusedFrom (source_of_side command s) run.inputs_before run.inputs_after found) (sym h.0) h.1;
+          refused = subst (λ s. IsRefusedFrom (scale_of command) (source_of_side command s) run.inputs_before run.inputs_after found)
+              (sym h.0) h.1;
           first = first_refusal side found come refusal;
           unwritten = unwritten;
           read_well = h.2;
@@ -135,19 +139,21 @@ module _ (words : List (List ℕ)) (s0 : InputsSeen) (o0 : SinkSeen) (a_new : s0
       (asked_a : IsAskedOrNot command.a (s1.asked A))
     where
       -- at A
-      pub at_a : (found : SideFault) → IsSideFault A command.a s0 s1 found → IsRun (ended_in s1 o0) (status_of_side found)
+      pub at_a : (found : SideFault) → IsSideFault (scale_of command) A command.a s0 s1 found
+          → IsRun (ended_in s1 o0) (status_of_side found)
       at_a found h =
           let run = ended_in s1 o0 in
           let none : s1.asked B ≡ None = others_a.other_side.asked ∙ b_new in
           run_of run (status_of_side found) (side_says run command is A found none refl h) (both_rightly run command is asked_a (inl none))
           (inl none)
 
-      module _ (in_a : List Figure) (admitted_a : IsAdmittedFrom A command.a s0 s1 in_a) (uncounted_a : s1.faults ≡ s0.faults)
+      module _ (in_a : List Figure) (admitted_a : IsAdmittedFrom (scale_of command) A command.a s0 s1 in_a)
+          (uncounted_a : s1.faults ≡ s0.faults)
           (s2 : InputsSeen) (others_b : KeepsOthers B s1 s2) (asked_b : IsAskedOrNot command.b (s2.asked B))
         where
           -- A is admitted at the end too
           still_a : (o : SinkSeen) → IsAdmittedAs (ended_in s2 o) command A in_a
-          still_a o = admitted_stays A command.a s0 s1 s2 in_a others_b.other_side admitted_a
+          still_a o = admitted_stays (scale_of command) A command.a s0 s1 s2 in_a others_b.other_side admitted_a
 
           asked_both : (o : SinkSeen) (side : Which) → IsAskedRightly (ended_in s2 o) side
           asked_both o =
@@ -157,35 +163,45 @@ module _ (words : List (List ℕ)) (s0 : InputsSeen) (o0 : SinkSeen) (a_new : s0
           last_asked o = inr (record { command = command; is_command = is; holds = (in_a, still_a o) })
 
           -- at B
-          pub at_b : (found : SideFault) → IsSideFault B command.b s1 s2 found → IsRun (ended_in s2 o0) (status_of_side found)
+          pub at_b : (found : SideFault) → IsSideFault (scale_of command) B command.b s1 s2 found
+              → IsRun (ended_in s2 o0) (status_of_side found)
           at_b found h =
               let run = ended_in s2 o0 in
-              let since = fault_since B command.b s0 s1 s2 found others_a.holds uncounted_a h in
+              let since = fault_since (scale_of command) B command.b s0 s1 s2 found others_a.holds uncounted_a h in
               run_of run (status_of_side found) (side_says run command is B found (in_a, still_a o0) refl since) (asked_both o0)
               (last_asked o0)
 
-          module _ (in_b : List Figure) (admitted_b : IsAdmittedFrom B command.b s1 s2 in_b) (uncounted_b : s2.faults ≡ s1.faults)
-              (o : SinkSeen) (text : List ℕ) (is_text : IsTextOf in_a in_b Mod2 text)
+          module _ (in_b : List Figure) (admitted_b : IsAdmittedFrom (scale_of command) B command.b s1 s2 in_b)
+              (uncounted_b : s2.faults ≡ s1.faults)
+              (o : SinkSeen) (text : List ℕ) (is_text : IsTextOf (rule_of command) (query_of command) in_a in_b text)
             where
               of_pairs : HasText (ended_in s2 o) command text
               of_pairs = record {
                 in_a = in_a;
                 in_b = in_b;
                 admitted_a = still_a o;
-                admitted_b = admitted_since B command.b s0 s1 s2 in_b others_a.holds admitted_b;
+                admitted_b = admitted_since (scale_of command) B command.b s0 s1 s2 in_b others_a.holds admitted_b;
                 is_text = is_text;
               }
 
               -- in the pairs
-              pub at_pairs : HasFailedAt o0 o text → IsRun (ended_in s2 o) status.WriteFault
-              at_pairs front =
-                  run_of (ended_in s2 o) status.WriteFault
-                  (record {
-                    command = command;
-                    is_command = is;
-                    holds = record { text = text; of_pairs = of_pairs; front = front; read_well = uncounted_b ∙ uncounted_a };
-                  })
-                  (asked_both o) (last_asked o)
+              pairs_say : (found : PairFault) → IsWritten (Err found) o0 o text → SaysOf (ended_in s2 o) (status_of_pairs found)
+              pairs_say pair.WriteFault front = record {
+                command = command;
+                is_command = is;
+                holds = record { text = text; of_pairs = of_pairs; front = front; read_well = uncounted_b ∙ uncounted_a };
+              }
+              pairs_say pair.NoMemory front = record {
+                command = command;
+                is_command = is;
+                holds = record {
+                  written = inr (record { text = text; of_pairs = of_pairs; front = front });
+                  read_well = uncounted_b ∙ uncounted_a;
+                };
+              }
+
+              pub at_pairs : (found : PairFault) → IsWritten (Err found) o0 o text → IsRun (ended_in s2 o) (status_of_pairs found)
+              at_pairs found front = run_of (ended_in s2 o) (status_of_pairs found) (pairs_say found front) (asked_both o) (last_asked o)
 
               -- behind the last
               pub at_end : o ≡ after_taking o0 text → IsRun (ended_in s2 o) status.Ok

@@ -53,23 +53,23 @@ pub record IsReadPastLimit (side : Which) (name : List ℕ) (seen : InputsSeen) 
 abbrev pub IsReadFor : Refusal → List ℕ → InputsSeen → Type 0
 IsReadFor (refusal.TooLong side) name seen = IsReadPastLimit side name seen
 IsReadFor (refusal.Text side number kind place) name seen = IsReadToEnd side name seen
-IsReadFor (refusal.Unbuilt side number) name seen = IsReadToEnd side name seen
+IsReadFor (refusal.Shape side number kind element) name seen = IsReadToEnd side name seen
 
 -- The side of a refusal.
 abbrev pub side_of : Refusal → Which
 side_of (refusal.TooLong side) = side
 side_of (refusal.Text side number kind place) = side
-side_of (refusal.Unbuilt side number) = side
+side_of (refusal.Shape side number kind element) = side
 
 -- A side's source is admitted as these figures: it was read to its end, and where its bytes are told, they are admitted so.
-pub record IsAdmittedFrom (side : Which) (from : Source) (before after : InputsSeen) (figures : List Figure) : Type 0 where
+pub record IsAdmittedFrom (scale : ℕ) (side : Which) (from : Source) (before after : InputsSeen) (figures : List Figure) : Type 0 where
   pub read : IfNamed from (λ name. IsReadToEnd side name after)
-  pub admitted : (bytes : List ℕ) → bytes_of before.holds from ≡ Some bytes → IsAdmitted bytes figures
+  pub admitted : (bytes : List ℕ) → bytes_of before.holds from ≡ Some bytes → IsAdmitted scale bytes figures
 
 -- A source is refused: it was read as far as the refusal needs, and where its bytes are told, this is their refusal.
-pub record IsRefusedFrom (from : Source) (before after : InputsSeen) (found : Refusal) : Type 0 where
+pub record IsRefusedFrom (scale : ℕ) (from : Source) (before after : InputsSeen) (found : Refusal) : Type 0 where
   pub read : IfNamed from (λ name. IsReadFor found name after)
-  pub refusal : (bytes : List ℕ) → bytes_of before.holds from ≡ Some bytes → IsRefusalOf (side_of found) bytes found
+  pub refusal : (bytes : List ℕ) → bytes_of before.holds from ≡ Some bytes → IsRefusalOf scale (side_of found) bytes found
 
 -- A side's source couldn't be read: it was asked for by its name, and one more fault was counted.
 pub record IsUnreadable (side : Which) (from : Source) (before after : InputsSeen) : Type 0 where
@@ -79,11 +79,11 @@ pub record IsUnreadable (side : Which) (from : Source) (before after : InputsSee
   pub counted : after.faults ≡ one_more before.faults
 
 -- Why a side gave no figures. A fault is counted only where it couldn't be read.
-abbrev pub IsSideFault : Which → Source → InputsSeen → InputsSeen → SideFault → Type 0
-IsSideFault side from before after (fault.Refused found) =
-    (side_of found ≡ side) × IsRefusedFrom from before after found × (after.faults ≡ before.faults)
-IsSideFault side from before after fault.ReadFault = IsUnreadable side from before after
-IsSideFault side from before after fault.NoMemory = after.faults ≡ before.faults
+abbrev pub IsSideFault : ℕ → Which → Source → InputsSeen → InputsSeen → SideFault → Type 0
+IsSideFault scale side from before after (fault.Refused found) =
+    (side_of found ≡ side) × IsRefusedFrom scale from before after found × (after.faults ≡ before.faults)
+IsSideFault scale side from before after fault.ReadFault = IsUnreadable side from before after
+IsSideFault scale side from before after fault.NoMemory = after.faults ≡ before.faults
 
 -- The bytes of a side's source, read whole.
 pub record AreBytesFrom (side : Which) (from : Source) (before after : InputsSeen) (bytes : List ℕ) : Type 0 where
@@ -93,7 +93,7 @@ pub record AreBytesFrom (side : Which) (from : Source) (before after : InputsSee
   pub uncounted : after.faults ≡ before.faults
 
 -- Why the text of a side gave no figures: its refusal, or want of memory.
-abbrev pub IsTextFault : Which → List ℕ → SideFault → Type 0
-IsTextFault side bytes (fault.Refused refused) = IsRefusalOf side bytes refused
-IsTextFault side bytes fault.ReadFault = ⊥
-IsTextFault side bytes fault.NoMemory = ⊤
+abbrev pub IsTextFault : ℕ → Which → List ℕ → SideFault → Type 0
+IsTextFault scale side bytes (fault.Refused refused) = IsRefusalOf scale side bytes refused
+IsTextFault scale side bytes fault.ReadFault = ⊥
+IsTextFault scale side bytes fault.NoMemory = ⊤

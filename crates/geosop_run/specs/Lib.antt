@@ -1,4 +1,3 @@
-pub mod Points
 pub mod Statuses
 pub mod Text
 pub mod Command

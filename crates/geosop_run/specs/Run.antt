@@ -3,7 +3,10 @@ use Rattle.std.specs.Prelude.{◌≡◌, ℕ, ◌⊎◌, List, Some, None}
 use Rattle.im_matrix.specs.declared.Which.{Which}
 use Rattle.im_matrix.specs.declared.Which.TheVariants.{A, B}
 use Rattle.point_set.specs.declared.figure.Figure.{Figure}
+use Rattle.point_set.specs.declared.rule.Rule.{Rule}
 use Rattle.point_set.specs.declared.rule.Rule.TheVariants.{Mod2}
+use Rattle.topo_pred.specs.declared.Query.{Query}
+use Rattle.topo_pred.specs.declared.Query.TheVariants.{Relate}
 use Rattle.geosop_io.specs.Counts.{IsRisen}
 use Rattle.geosop_io.specs.Inputs.{InputsSeen}
 use Rattle.geosop_io.specs.Sink.{SinkSeen, HasTakenFront, HasFailedAt, after_taking}
@@ -27,6 +30,18 @@ pub record Run : Type 0 where
   pub output_before : SinkSeen
   pub output_after : SinkSeen
 
+-- By how many digits the points of the numbers are moved to the right.
+abbrev pub scale_of : Config → ℕ
+scale_of command = 0
+
+-- The boundary node rule.
+abbrev pub rule_of : Config → Rule
+rule_of command = Mod2
+
+-- What is asked of each pair.
+abbrev pub query_of : Config → Query
+query_of command = Relate
+
 -- The source of a side.
 abbrev pub source_of_side : Config → Which → Source
 source_of_side command A = command.a
@@ -39,7 +54,8 @@ HasBytes run command side bytes = bytes_of run.inputs_before.holds (source_of_si
 -- A side is admitted as these figures: a file or standard input was asked for by its name and read to its end, and where its
 -- bytes are told, they are within the limit and read as these figures.
 abbrev pub IsAdmittedAs : Run → Config → Which → List Figure → Type 0
-IsAdmittedAs run command side figures = IsAdmittedFrom side (source_of_side command side) run.inputs_before run.inputs_after figures
+IsAdmittedAs run command side figures =
+    IsAdmittedFrom (scale_of command) side (source_of_side command side) run.inputs_before run.inputs_after figures
 
 -- No fault of the inputs was counted.
 abbrev pub IsReadWell : Run → Type 0
@@ -55,7 +71,7 @@ pub record HasText (run : Run) (command : Config) (text : List ℕ) : Type 0 whe
   pub in_b : List Figure
   pub admitted_a : IsAdmittedAs run command A in_a
   pub admitted_b : IsAdmittedAs run command B in_b
-  pub is_text : IsTextOf in_a in_b Mod2 text
+  pub is_text : IsTextOf (rule_of command) (query_of command) in_a in_b text
 
 -- Ok: the output took the whole text, and no fault was counted.
 pub record SaysOk (run : Run) (command : Config) : Type 0 where
@@ -79,8 +95,8 @@ HasComeTo run command B = (figures : List Figure) × IsAdmittedAs run command A 
 -- counted.
 pub record SaysRefused (run : Run) (command : Config) (found : Refusal) : Type 0 where
   pub come : HasComeTo run command (side_of found)
-  pub refused : IsRefusedFrom (source_of_side command (side_of found)) run.inputs_before run.inputs_after found
-  pub first : (a b : List ℕ) → HasBytes run command A a → HasBytes run command B b → IsFirstRefusal a b found
+  pub refused : IsRefusedFrom (scale_of command) (source_of_side command (side_of found)) run.inputs_before run.inputs_after found
+  pub first : (a b : List ℕ) → HasBytes run command A a → HasBytes run command B b → IsFirstRefusal (scale_of command) a b found
   pub unwritten : IsUnwritten run
   pub read_well : IsReadWell run
 
@@ -144,17 +160,19 @@ IsRefusedOrStopped ended found = (ended ≡ status.Refused found) ⊎ ((ended �
 pub record ComesOf (run : Run) (command : Config) (ended : Status) : Type 0 where
   -- Two sides that are both admitted end Ok, where no fault is counted.
   pub completes : (a b : List ℕ) → HasBytes run command A a → HasBytes run command B b → (in_a in_b : List Figure)
-      → IsAdmitted a in_a → IsAdmitted b in_b
+      → IsAdmitted (scale_of command) a in_a → IsAdmitted (scale_of command) b in_b
       → (¬ IsRisen run.inputs_before.faults run.inputs_after.faults) → (¬ IsRisen run.output_before.faults run.output_after.faults)
       → (ended ≡ status.Ok) ⊎ (ended ≡ status.NoMemory)
   -- The first refusal of the input comes out, unless a fault is counted; that of A whatever B is, and then B isn't asked for.
   pub refusal : (a b : List ℕ) → HasBytes run command A a → HasBytes run command B b
-      → (found : Refusal) → IsFirstRefusal a b found → IsRefusedOrStopped ended found
-  pub refusal_of_a : (a : List ℕ) → HasBytes run command A a → (found : Refusal) → IsRefusalOf A a found → IsRefusedOrStopped ended found
-  pub b_unasked : (a : List ℕ) → HasBytes run command A a → (found : Refusal) → IsRefusalOf A a found → run.inputs_after.asked B ≡ None
+      → (found : Refusal) → IsFirstRefusal (scale_of command) a b found → IsRefusedOrStopped ended found
+  pub refusal_of_a : (a : List ℕ) → HasBytes run command A a → (found : Refusal) → IsRefusalOf (scale_of command) A a found
+      → IsRefusedOrStopped ended found
+  pub b_unasked : (a : List ℕ) → HasBytes run command A a → (found : Refusal) → IsRefusalOf (scale_of command) A a found
+      → run.inputs_after.asked B ≡ None
   -- Where a side has a refusal nothing is written, whatever the status and the other side.
   pub unwritten : (side : Which) (bytes : List ℕ) → HasBytes run command side bytes
-      → (found : Refusal) → IsRefusalOf side bytes found → IsUnwritten run
+      → (found : Refusal) → IsRefusalOf (scale_of command) side bytes found → IsUnwritten run
 
 -- What a run says: by its status; whatever its status, for what it asked; and what comes of its words, by their first fault or as a
 -- command.

@@ -5,10 +5,14 @@ use Rattle.im_matrix.specs.declared.Which.{Which}
 use Rattle.im_matrix.specs.declared.Which.TheVariants.{A, B}
 use Rattle.wkt_text.specs.declared.control.WktKind.{WktKind}
 use Rattle.wkt_text.specs.declared.control.WktKind.TheVariants.{Syntax, UnknownType, NotWhole, TooWide, LongNumber, Ragged, RingOpen, RingShort, LineShort, Deep, TooMany}
+use Rattle.geom_valid.specs.declared.kinds.InvalidKind.{InvalidKind}
+use Rattle.geom_valid.specs.declared.kinds.InvalidKind.TheVariants.{TooFewPoints, RingCross, RingsShareEdge, HoleOutside, HolesOverlap, Disconnected, ElementsShareEdge, ElementsOverlap}
 use Rattle.geosop_run.specs.declared.config.LineFault.{LineFault}
 use Rattle.geosop_run.specs.declared.config.LineFault.TheVariants as words
 use Rattle.geosop_run.specs.declared.config.UsageFault.{UsageFault}
 use Rattle.geosop_run.specs.declared.config.UsageFault.TheVariants as usage
+use Rattle.geosop_run.specs.declared.pairs.PairFault.{PairFault}
+use Rattle.geosop_run.specs.declared.pairs.PairFault.TheVariants as pair
 use Rattle.geosop_run.specs.declared.sources.SideFault.{SideFault}
 use Rattle.geosop_run.specs.declared.sources.SideFault.TheVariants as side
 use Rattle.geosop_run.specs.declared.status.Refusal.{Refusal}
@@ -36,6 +40,11 @@ status_of_side (side.Refused refusal) = status.Refused refusal
 status_of_side side.ReadFault = status.ReadFault
 status_of_side side.NoMemory = status.NoMemory
 
+-- The status of a run that a fault in the pairs ends.
+abbrev pub status_of_pairs : PairFault → Status
+status_of_pairs pair.WriteFault = status.WriteFault
+status_of_pairs pair.NoMemory = status.NoMemory
+
 -- The status of a run: Ok, or the one that ended it.
 abbrev pub status_of : {T : Type 0} → Result T Status → Status
 status_of (Ok done) = status.Ok
@@ -60,6 +69,17 @@ kind_name LineShort = codes "LineShort"
 kind_name Deep = codes "Deep"
 kind_name TooMany = codes "TooMany"
 
+-- The name of a figure's fault.
+abbrev pub invalid_name : InvalidKind → List ℕ
+invalid_name TooFewPoints = codes "TooFewPoints"
+invalid_name RingCross = codes "RingCross"
+invalid_name RingsShareEdge = codes "RingsShareEdge"
+invalid_name HoleOutside = codes "HoleOutside"
+invalid_name HolesOverlap = codes "HolesOverlap"
+invalid_name Disconnected = codes "Disconnected"
+invalid_name ElementsShareEdge = codes "ElementsShareEdge"
+invalid_name ElementsOverlap = codes "ElementsOverlap"
+
 -- The name of a usage fault.
 abbrev pub usage_name : UsageFault → List ℕ
 usage_name usage.Line = codes "Line"
@@ -75,8 +95,9 @@ refusal_pieces (refusal.TooLong side) = codes "geosop: " ∷ side_name side ∷ 
 refusal_pieces (refusal.Text side number kind place) =
     codes "geosop: " ∷ side_name side ∷ codes " " ∷ decimal number ∷ codes ": "
     ∷ kind_name kind ∷ codes " at " ∷ decimal place ∷ line_feed ∷ []
-refusal_pieces (refusal.Unbuilt side number) =
-    codes "geosop: " ∷ side_name side ∷ codes " " ∷ decimal number ∷ codes ": Unbuilt" ∷ line_feed ∷ []
+refusal_pieces (refusal.Shape side number kind element) =
+    codes "geosop: " ∷ side_name side ∷ codes " " ∷ decimal number ∷ codes ": "
+    ∷ invalid_name kind ∷ codes " in element " ∷ decimal element ∷ line_feed ∷ []
 
 -- The fault line of a status, piece by piece; Ok has none.
 abbrev pub fault_pieces : Status → List (List ℕ)

@@ -1,11 +1,18 @@
--- What a run writes: a line for each pair, with the matrix of the two point sets.
-use Rattle.std.specs.Prelude.{◌≡◌, ℕ, List, [], ◌∷◌, ◌++◌, Result}
+-- What a run writes: a line for each pair, with the answer on the matrix of the two point sets.
+use Rattle.std.specs.Prelude.{◌≡◌, ℕ, true, false, List, [], ◌∷◌, ◌++◌, Result, Ok, Err, codes}
 use Rattle.im_matrix.specs.Cells.{matrix_text}
 use Rattle.im_matrix.specs.declared.Matrix.{Matrix}
 use Rattle.point_set.specs.declared.figure.Figure.{Figure}
 use Rattle.point_set.specs.declared.rule.Rule.{Rule}
 use Rattle.point_set.specs.Relation.{IsMatrixOf}
-use Rattle.geosop_io.specs.Sink.{SinkSeen, IsOffered}
+use Rattle.point_set.specs.Shape.{dimension_of}
+use Rattle.topo_pred.specs.declared.Query.{Query}
+use Rattle.topo_pred.specs.declared.Answer.{Answer}
+use Rattle.topo_pred.specs.declared.Answer.TheVariants.{Im, Truth}
+use Rattle.topo_pred.specs.Values.{value_of}
+use Rattle.geosop_io.specs.Sink.{SinkSeen, HasTakenFront, HasFailedAt, after_taking}
+use Rattle.geosop_run.specs.declared.pairs.PairFault.{PairFault}
+use Rattle.geosop_run.specs.declared.pairs.PairFault.TheVariants as fault
 
 -- A text of two parts.
 pub record IsJoined (IsFirst IsRest : List ℕ → Type 0) (text : List ℕ) : Type 0 where
@@ -20,22 +27,38 @@ abbrev pub IsTextOfEach : {X : Type 0} → (X → List ℕ → Type 0) → List 
 IsTextOfEach IsPart [] text = text ≡ []
 IsTextOfEach IsPart (item ∷ others) text = IsJoined (IsPart item) (IsTextOfEach IsPart others) text
 
--- The line of a pair: the nine characters of the matrix of the two point sets, and a line feed.
-pub record IsLineOf (a b : Figure) (rule : Rule) (line : List ℕ) : Type 0 where
+-- The characters of an answer: the nine of the matrix, or the word of the truth value.
+abbrev pub answer_text : Answer → List ℕ
+answer_text (Im matrix) = matrix_text matrix
+answer_text (Truth true) = codes "true"
+answer_text (Truth false) = codes "false"
+
+-- The line of an answer: its characters and a line feed.
+abbrev pub line_of : Answer → List ℕ
+line_of answer = answer_text answer ++ 10 ∷ []
+
+-- The line of a pair: that of the query's value on the matrix of the two point sets under the rule.
+pub record IsLineOf (rule : Rule) (query : Query) (a b : Figure) (line : List ℕ) : Type 0 where
   pub matrix : Matrix
   pub is_matrix : IsMatrixOf a b rule matrix
-  pub spelled : line ≡ matrix_text matrix ++ 10 ∷ []
+  pub spelled : line ≡ line_of (value_of query (dimension_of a) (dimension_of b) matrix)
 
 -- The lines of one figure with each of a list, in order.
-abbrev pub IsRowOf : Figure → List Figure → Rule → List ℕ → Type 0
-IsRowOf a in_b rule = IsTextOfEach (λ b. IsLineOf a b rule) in_b
+abbrev pub IsRowOf : Rule → Query → List Figure → Figure → List ℕ → Type 0
+IsRowOf rule query in_b a = IsTextOfEach (IsLineOf rule query a) in_b
 
 -- The lines of all pairs: for each figure of A in order, those with each figure of B in order.
-abbrev pub IsTextOf : List Figure → List Figure → Rule → List ℕ → Type 0
-IsTextOf in_a in_b rule = IsTextOfEach (λ a. IsRowOf a in_b rule) in_a
+abbrev pub IsTextOf : Rule → Query → List Figure → List Figure → List ℕ → Type 0
+IsTextOf rule query in_a in_b = IsTextOfEach (IsRowOf rule query in_b) in_a
 
--- A text of this kind was offered to a sink.
-pub record IsTextOffered {T E : Type 0} (IsText : List ℕ → Type 0) (result : Result T E) (old new : SinkSeen) : Type 0 where
+-- What came of a text that was to be written: all of it was taken, or a front of it, and then a fault was counted or memory wanting.
+abbrev pub IsWritten : Result (Unit {0}) PairFault → SinkSeen → SinkSeen → List ℕ → Type 0
+IsWritten (Ok done) old new text = new ≡ after_taking old text
+IsWritten (Err fault.WriteFault) old new text = HasFailedAt old new text
+IsWritten (Err fault.NoMemory) old new text = HasTakenFront old new text
+
+-- A text of this kind was to be written.
+pub record IsTextWritten (IsText : List ℕ → Type 0) (result : Result (Unit {0}) PairFault) (old new : SinkSeen) : Type 0 where
   pub text : List ℕ
   pub is_text : IsText text
-  pub offered : IsOffered result old new text
+  pub written : IsWritten result old new text

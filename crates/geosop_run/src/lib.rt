@@ -7,7 +7,6 @@ mod figures;
 mod gate;
 mod output;
 mod pairs;
-mod point_relation;
 mod program;
 mod sides;
 mod sources;

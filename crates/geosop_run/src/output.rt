@@ -1,10 +1,11 @@
 ghost use Rattle.std.specs.Prelude.{◌≡◌, flat_map};
 ghost use Rattle.std.specs.List.{concat};
 ghost use Rattle.geosop_io.specs.Sink.{IsOffered};
-ghost use Rattle.geosop_run.specs.Statuses.{side_name as side_bytes, kind_name as kind_bytes, usage_name as usage_bytes, refusal_pieces, fault_line};
+ghost use Rattle.geosop_run.specs.Statuses.{side_name as side_bytes, kind_name as kind_bytes, invalid_name as invalid_bytes, usage_name as usage_bytes, refusal_pieces, fault_line};
 
 use crate::config::UsageFault;
 use crate::status::{Refusal, Status};
+use geom_valid::InvalidKind;
 use geosop_io::{Failed, Sink, offer_whole};
 use im_matrix::Which;
 use itoa::Buffer;
@@ -49,6 +50,22 @@ fn kind_name(kind: WktKind) -> &'static [u8]
     }
 }
 
+/// The name of a figure's fault.
+fn invalid_name(kind: InvalidKind) -> &'static [u8]
+    ensures name { result.now ≡ invalid_bytes kind }
+{
+    match kind {
+        InvalidKind::TooFewPoints => b"TooFewPoints",
+        InvalidKind::RingCross => b"RingCross",
+        InvalidKind::RingsShareEdge => b"RingsShareEdge",
+        InvalidKind::HoleOutside => b"HoleOutside",
+        InvalidKind::HolesOverlap => b"HolesOverlap",
+        InvalidKind::Disconnected => b"Disconnected",
+        InvalidKind::ElementsShareEdge => b"ElementsShareEdge",
+        InvalidKind::ElementsOverlap => b"ElementsOverlap",
+    }
+}
+
 /// The name of a usage fault.
 fn usage_name(fault: UsageFault) -> &'static [u8]
     ensures name { result.now ≡ usage_bytes fault }
@@ -90,12 +107,22 @@ fn offer_text_fault<E: Sink>(
     )
 }
 
-/// Offers the fault line of a geometry of a type that isn't built yet.
-fn offer_unbuilt<E: Sink>(err: &mut E, side: Which, number: u32) -> Result<(), Failed>
-    ensures offered { IsOffered result (E.seen err.old) (E.seen err.new) (concat (refusal_pieces (Refusal.Unbuilt side number))) }
+/// Offers the fault line of a geometry's figure.
+fn offer_shape_fault<E: Sink>(
+    err: &mut E,
+    side: Which,
+    number: u32,
+    kind: InvalidKind,
+    element: u32,
+) -> Result<(), Failed>
+    ensures offered { IsOffered result (E.seen err.old) (E.seen err.new)
+        (concat (refusal_pieces (Refusal.Shape side number kind element))) }
 {
     let mut number_buffer = Buffer::new();
+    let mut element_buffer = Buffer::new();
     let number = number_buffer.format(number).as_bytes();
+    let element = element_buffer.format(element).as_bytes();
+    let kind = invalid_name(kind);
     offer_pieces(
         err,
         &[
@@ -103,7 +130,10 @@ fn offer_unbuilt<E: Sink>(err: &mut E, side: Which, number: u32) -> Result<(), F
             side_name(side),
             b" ",
             number,
-            b": Unbuilt",
+            b": ",
+            kind,
+            b" in element ",
+            element,
             b"\n",
         ],
     )
@@ -121,7 +151,9 @@ fn offer_refusal<E: Sink>(err: &mut E, refusal: Refusal) -> Result<(), Failed>
         Refusal::Text(side, number, kind, place) => {
             offer_text_fault(err, side, number, kind, place)
         }
-        Refusal::Unbuilt(side, number) => offer_unbuilt(err, side, number),
+        Refusal::Shape(side, number, kind, element) => {
+            offer_shape_fault(err, side, number, kind, element)
+        }
     }
 }
 

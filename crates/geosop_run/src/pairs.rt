@@ -1,13 +1,55 @@
-ghost use Rattle.std.specs.Prelude.{◌≡◌, [], ◌∷◌, ◌++◌, All};
+ghost use Rattle.std.specs.Prelude.{◌≡◌, [], ◌∷◌, ◌++◌, All, map, IfOk};
 ghost use Rattle.im_matrix.specs.Cells.{matrix_text};
-ghost use Rattle.point_set.specs.declared.rule.Rule.TheVariants.{Mod2};
-ghost use Rattle.geosop_run.specs.Points.{HasPointsAlone};
-ghost use Rattle.geosop_run.specs.Text.{IsLineOf, IsRowOf, IsTextOf, IsTextOffered};
+ghost use Rattle.geosop_io.specs.Sink.{IsOffered};
+ghost use Rattle.geosop_run.specs.Sources.{IsSound};
+ghost use Rattle.geosop_run.specs.Text.{line_of, IsLineOf, IsRowOf, IsTextOf, IsTextWritten};
 
-use crate::point_relation::matrix_of;
 use geosop_io::{Failed, Sink, offer_whole};
 use im_matrix::Matrix;
-use point_set::Valid;
+use plane_exact::NoMemory;
+use point_set::{Rule, Valid};
+use relate_core::evaluate;
+use std::alloc::Global;
+use topo_pred::{Answer, Query};
+use union_locator::Plain;
+
+/// What is asked of each pair.
+#[derive(Clone, Copy, Debug)]
+pub(crate) struct Question {
+    /// The boundary node rule.
+    pub(crate) rule: Rule,
+    /// The query.
+    pub(crate) query: Query,
+}
+
+/// Why the lines of the pairs weren't all written.
+#[derive(Clone, Copy, Debug, PartialEq, Eq)]
+pub(crate) enum PairFault {
+    /// The output didn't take a line.
+    WriteFault,
+    /// Want of memory.
+    NoMemory,
+}
+
+impl From<Failed> for PairFault {
+    ghost use Rattle.geosop_run.specs.declared.pairs.PairFault.TheVariants as fault;
+
+    ghost from_gives = { λ _ e. e ≡ fault.WriteFault };
+
+    fn from(_value: Failed) -> Self {
+        PairFault::WriteFault
+    }
+}
+
+impl From<NoMemory> for PairFault {
+    ghost use Rattle.geosop_run.specs.declared.pairs.PairFault.TheVariants as fault;
+
+    ghost from_gives = { λ _ e. e ≡ fault.NoMemory };
+
+    fn from(_value: NoMemory) -> Self {
+        PairFault::NoMemory
+    }
+}
 
 /// The line of a matrix.
 fn spell(matrix: &Matrix) -> [u8; 10]
@@ -17,40 +59,88 @@ fn spell(matrix: &Matrix) -> [u8; 10]
     [ii, ib, ie, bi, bb, be, ei, eb, ee, b'\n']
 }
 
-/// Offers the line of a pair.
-fn offer_pair<O: Sink>(out: &mut O, a: &Valid, b: &Valid) -> Result<(), Failed>
-    requires a_points { HasPointsAlone a.now }
-    requires b_points { HasPointsAlone b.now }
-    ensures offered { IsTextOffered (IsLineOf a.now b.now Mod2) result (O.seen out.old) (O.seen out.new) }
+/// Offers the line of an answer.
+fn offer_answer<O: Sink>(out: &mut O, answer: Answer) -> Result<(), Failed>
+    ensures offered { IsOffered result (O.seen out.old) (O.seen out.new) (line_of answer) }
 {
-    let line = spell(&matrix_of(a, b));
-    offer_whole(out, &line)
+    match answer {
+        Answer::Im(matrix) => offer_whole(out, &spell(&matrix)),
+        Answer::Truth(true) => offer_whole(out, b"true\n"),
+        Answer::Truth(false) => offer_whole(out, b"false\n"),
+    }
+}
+
+/// Makes the answer of a pair and offers its line.
+fn offer_pair<O: Sink>(
+    alloc: Global,
+    out: &mut O,
+    a: &mut Plain<'_>,
+    b: &mut Plain<'_>,
+    asked: Question,
+) -> Result<(), PairFault>
+    requires a_sound { IsSound a.old.figure }
+    requires b_sound { IsSound b.old.figure }
+    ensures written { IsTextWritten (IsLineOf asked.rule asked.query a.old.figure b.old.figure) result (O.seen out.old) (O.seen out.new) }
+    ensures a_kept { a.new.figure ≡ a.old.figure }
+    ensures b_kept { b.new.figure ≡ b.old.figure }
+{
+    let answer = evaluate(alloc, a, b, asked.rule, asked.query)?;
+    offer_answer(out, answer)?;
+    Ok(())
 }
 
 /// Offers the lines of one figure with each of a list.
-fn offer_row<O: Sink>(out: &mut O, a: &Valid, in_b: &[Valid]) -> Result<(), Failed>
-    requires a_points { HasPointsAlone a.now }
-    requires b_points { All HasPointsAlone in_b.now }
-    ensures offered { IsTextOffered (IsRowOf a.now in_b.now Mod2) result (O.seen out.old) (O.seen out.new) }
+fn offer_row<O: Sink>(
+    alloc: Global,
+    out: &mut O,
+    a: &Valid,
+    in_b: &mut [Plain<'_>],
+    asked: Question,
+) -> Result<(), PairFault>
+    requires a_sound { IsSound a.now }
+    requires b_sound { All IsSound (map (λ b. b.figure) in_b.old) }
+    ensures written { IsTextWritten (IsRowOf asked.rule asked.query (map (λ b. b.figure) in_b.old) a.now)
+        result (O.seen out.old) (O.seen out.new) }
+    ensures kept { map (λ b. b.figure) in_b.new ≡ map (λ b. b.figure) in_b.old }
 {
-    for b in in_b {
-        offer_pair(out, a, b)?;
+    let mut of_a = Plain::new(alloc, a)?;
+    for of_b in in_b.iter_mut() {
+        offer_pair(alloc, out, &mut of_a, of_b, asked)?;
     }
     Ok(())
 }
 
+/// Each figure with its edges and line ends, so that they are made once for all pairs.
+///
+/// # Errors
+/// `NoMemory`.
+fn plains_of(alloc: Global, figures: &[Valid]) -> Result<Vec<Plain<'_>>, NoMemory>
+    ensures figures { IfOk result (λ plains. map (λ b. b.figure) plains.items ≡ figures.now) }
+{
+    let mut plains = Vec::new(alloc);
+    for figure in figures {
+        if plains.push(Plain::new(alloc, figure)?).is_err() {
+            return Err(NoMemory);
+        }
+    }
+    Ok(plains)
+}
+
 /// Offers the lines of all pairs, A outer and B inner.
 pub(crate) fn offer_pairs<O: Sink>(
+    alloc: Global,
     out: &mut O,
     in_a: &[Valid],
     in_b: &[Valid],
-) -> Result<(), Failed>
-    requires a_points { All HasPointsAlone in_a.now }
-    requires b_points { All HasPointsAlone in_b.now }
-    ensures offered { IsTextOffered (IsTextOf in_a.now in_b.now Mod2) result (O.seen out.old) (O.seen out.new) }
+    asked: Question,
+) -> Result<(), PairFault>
+    requires a_sound { All IsSound in_a.now }
+    requires b_sound { All IsSound in_b.now }
+    ensures written { IsTextWritten (IsTextOf asked.rule asked.query in_a.now in_b.now) result (O.seen out.old) (O.seen out.new) }
 {
+    let mut of_b = plains_of(alloc, in_b)?;
     for a in in_a {
-        offer_row(out, a, in_b)?;
+        offer_row(alloc, out, a, of_b.as_mut_slice(), asked)?;
     }
     Ok(())
 }

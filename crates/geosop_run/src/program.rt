@@ -8,14 +8,17 @@ use crate::command::read_line;
 use crate::config::{Config, LineFault};
 use crate::gate::Gate;
 use crate::output::offer_fault_line;
-use crate::pairs::offer_pairs;
+use crate::pairs::{PairFault, Question, offer_pairs};
 use crate::sides::admit_side;
 use crate::sources::SideFault;
 use crate::status::Status;
-use geosop_io::{Failed, Inputs, Sink};
+use geosop_io::{Inputs, Sink};
 use im_matrix::Which;
+use point_set::Rule;
 use std::alloc::Global;
 use std::thread::Threads;
+use topo_pred::Query;
+use wkt_text::Scale;
 
 impl From<LineFault> for Status {
     ghost use Rattle.std.specs.Prelude.{◌≡◌};
@@ -46,14 +49,17 @@ impl From<SideFault> for Status {
     }
 }
 
-impl From<Failed> for Status {
+impl From<PairFault> for Status {
     ghost use Rattle.std.specs.Prelude.{◌≡◌};
-    ghost use Rattle.geosop_run.specs.declared.status.Status.TheVariants as status;
+    ghost use Rattle.geosop_run.specs.Statuses.{status_of_pairs};
 
-    ghost from_gives = { λ _ e. e ≡ status.WriteFault };
+    ghost from_gives = { λ fault status. status ≡ status_of_pairs fault };
 
-    fn from(_value: Failed) -> Self {
-        Status::WriteFault
+    fn from(value: PairFault) -> Self {
+        match value {
+            PairFault::WriteFault => Status::WriteFault,
+            PairFault::NoMemory => Status::NoMemory,
+        }
     }
 }
 
@@ -88,9 +94,14 @@ fn relate_sources<I: Inputs, O: Sink>(
     }) (status_of_result result) }
 {
     let Config { a, b } = read_line(alloc, words)?;
-    let in_a = admit_side(alloc, inputs, Which::A, a)?;
-    let in_b = admit_side(alloc, inputs, Which::B, b)?;
-    offer_pairs(out, in_a.as_slice(), in_b.as_slice())?;
+    let scale = Scale { digits: 0 };
+    let in_a = admit_side(alloc, inputs, Which::A, a, scale)?;
+    let in_b = admit_side(alloc, inputs, Which::B, b, scale)?;
+    let asked = Question {
+        rule: Rule::Mod2,
+        query: Query::Relate,
+    };
+    offer_pairs(alloc, out, in_a.as_slice(), in_b.as_slice(), asked)?;
     Ok(())
 }
 

@@ -1,7 +1,7 @@
 ghost use Rattle.std.specs.Prelude.{◌≡◌, None, IfOk, IfErr, OnOk, All};
 ghost use Rattle.geosop_io.specs.Inputs.{KeepsOthers};
 ghost use Rattle.geosop_run.specs.Asking.{IsAdmittedFrom, IsAskedOrNot, IsSideFault};
-ghost use Rattle.geosop_run.specs.Points.{HasPointsAlone};
+ghost use Rattle.geosop_run.specs.Sources.{IsSound};
 
 use crate::config::Source;
 use crate::figures::admit_figures;
@@ -10,6 +10,7 @@ use geosop_io::Inputs;
 use im_matrix::Which;
 use point_set::Valids;
 use std::alloc::Global;
+use wkt_text::Scale;
 
 /// The figures of a side: its source is read whole, and then its geometries are read and admitted one after the other.
 ///
@@ -20,15 +21,16 @@ pub(crate) fn admit_side<I: Inputs>(
     inputs: &mut I,
     side: Which,
     source: Source,
+    scale: Scale,
 ) -> Result<Valids, SideFault>
     requires new { (I.seen inputs.old).asked side ≡ None }
-    ensures ok { IfOk result (IsAdmittedFrom side source (I.seen inputs.old) (I.seen inputs.new)) }
-    ensures points { IfOk result (All HasPointsAlone) }
+    ensures ok { IfOk result (IsAdmittedFrom scale.digits side source (I.seen inputs.old) (I.seen inputs.new)) }
+    ensures sound { IfOk result (All IsSound) }
     ensures uncounted { OnOk result ((I.seen inputs.new).faults ≡ (I.seen inputs.old).faults) }
-    ensures err { IfErr result (IsSideFault side source (I.seen inputs.old) (I.seen inputs.new)) }
+    ensures err { IfErr result (IsSideFault scale.digits side source (I.seen inputs.old) (I.seen inputs.new)) }
     ensures asked { IsAskedOrNot source ((I.seen inputs.new).asked side) }
     ensures others { KeepsOthers side (I.seen inputs.old) (I.seen inputs.new) }
 {
     let bytes = read_side(alloc, inputs, side, source)?;
-    admit_figures(alloc, side, bytes.as_slice())
+    admit_figures(alloc, side, bytes.as_slice(), scale)
 }

@@ -1,4 +1,4 @@
-ghost use Rattle.std.specs.Prelude.{◌≡◌, ◌≤◌, length, None, Some, IfOk, IfErr};
+ghost use Rattle.std.specs.Prelude.{◌≡◌, ℕ, ◌≤◌, length, None, Some, IfOk, IfErr};
 ghost use Rattle.geosop_io.specs.Inputs.{KeepsOthers};
 ghost use Rattle.geosop_run.specs.Asking.{AreBytesFrom, IsAskedOrNot, IsSideFault, IsTextFault};
 ghost use Rattle.geosop_run.specs.Sources.{most_bytes};
@@ -68,7 +68,7 @@ impl From<AllocError> for SideFault {
 fn take_text(alloc: Global, side: Which, word: &Word) -> Result<Vec<u8>, SideFault>
     ensures bytes { IfOk result (λ v. v.items ≡ word.now) }
     ensures within { IfOk result (λ v. length v.items ≤ most_bytes) }
-    ensures fault { IfErr result (IsTextFault side word.now) }
+    ensures fault { (scale : ℕ) → IfErr result (IsTextFault scale side word.now) }
 {
     let bytes = word.bytes();
     if bytes.len() > MOST_BYTES {
@@ -86,7 +86,7 @@ fn read_named<I: Inputs>(
 ) -> Result<Vec<u8>, SideFault>
     requires new { (I.seen inputs.old).asked side ≡ None }
     ensures ok { IfOk result (λ v. AreBytesFrom side (Source.File name) (I.seen inputs.old) (I.seen inputs.new) v.items) }
-    ensures err { IfErr result (IsSideFault side (Source.File name) (I.seen inputs.old) (I.seen inputs.new)) }
+    ensures err { (scale : ℕ) → IfErr result (IsSideFault scale side (Source.File name) (I.seen inputs.old) (I.seen inputs.new)) }
     ensures asked { (I.seen inputs.new).asked side ≡ Some name }
     ensures others { KeepsOthers side (I.seen inputs.old) (I.seen inputs.new) }
 {
@@ -116,7 +116,7 @@ pub(crate) fn read_side<I: Inputs>(
 ) -> Result<Vec<u8>, SideFault>
     requires new { (I.seen inputs.old).asked side ≡ None }
     ensures ok { IfOk result (λ v. AreBytesFrom side source (I.seen inputs.old) (I.seen inputs.new) v.items) }
-    ensures err { IfErr result (IsSideFault side source (I.seen inputs.old) (I.seen inputs.new)) }
+    ensures err { (scale : ℕ) → IfErr result (IsSideFault scale side source (I.seen inputs.old) (I.seen inputs.new)) }
     ensures asked { IsAskedOrNot source ((I.seen inputs.new).asked side) }
     ensures others { KeepsOthers side (I.seen inputs.old) (I.seen inputs.new) }
 {

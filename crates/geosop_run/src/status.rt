@@ -1,4 +1,5 @@
 use crate::config::UsageFault;
+use geom_valid::InvalidKind;
 use im_matrix::Which;
 use wkt_text::WktKind;
 
@@ -9,8 +10,8 @@ pub enum Refusal {
     TooLong(Which),
     /// A geometry's text has its first fault of this kind at this place. Geometries count from 1, places from 0.
     Text(Which, u32, WktKind, usize),
-    /// A geometry is of a type that isn't built yet.
-    Unbuilt(Which, u32),
+    /// A geometry's figure isn't valid: its first fault is of this kind, in this element. Geometries and elements count from 1.
+    Shape(Which, u32, InvalidKind, u32),
 }
 
 /// How a run ended.

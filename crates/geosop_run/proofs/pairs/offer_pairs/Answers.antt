@@ -1,37 +1,53 @@
--- Each row that was taken whole adds to what was taken, and a row that wasn't leaves a front of it.
-use Rattle.std.proofs.Common.{◌+◌, drop}
+-- Each row that was written adds to what was taken, and one that wasn't leaves a front of it.
+use Rattle.std.proofs.Common.{◌≡◌, ◌+◌, ◌∙◌, Err, List, ap, arith, subst, map, drop, length}
 use Rattle.std.proofs.lemmas.Result.{err_from_is_err_and}
 use Rattle.std.proofs.lemmas.List.Elements.{All-drop}
-use Rattle.point_set.specs.declared.rule.Rule.TheVariants.{Mod2}
-use Rattle.geosop_run.specs.Points.{HasPointsAlone}
-use Rattle.geosop_run.specs.Text.{IsRowOf}
-use Rattle.geosop_run.proofs.Parts.{taken_none, taken_more, text_offered, text_failed}
-use Rattle.geosop_run.proofs.PointLines.{some_text_of}
+use Rattle.std.proofs.lemmas.List.{with_items_is}
+use Rattle.point_set.specs.declared.figure.Figure.{Figure}
+use Rattle.geosop_run.specs.Sources.{IsSound}
+use Rattle.geosop_run.specs.Text.{IsRowOf, IsTextOf, IsTextWritten}
+use Rattle.geosop_run.proofs.Parts.{text_unbegun, text_ended, taken_more}
+use Rattle.geosop_run.proofs.SomeText.{some_text_of}
 use Rattle.geosop_run.proofs.pairs.offer_pairs.Goals as goal
 
-pub loop-a-init : goal.loop-a-init
-loop-a-init g c = taken_none (λ a. IsRowOf a c.args.in_b.now Mod2) _
-
-pub loop-a-preserved : goal.loop-a-preserved
-loop-a-preserved g c =
-    let row = c.in_ok-offer_row.ensures.offered in
-    taken_more (λ a. IsRowOf a c.args.in_b.now Mod2) c.args.in_a.now c.loop-a.a-index _ _ _ _ _ row.text c.a-item.is c.loop-a-test.true
-    c.loop-a.invariant row.is_text row.offered.whole
-
-pub returns : goal.returns
-returns g c = record {
-  offered = text_offered (λ a. IsRowOf a c.args.in_b.now Mod2) c.args.in_a.now c.loop-a.a-index _ _ c.loop-a-test.false c.loop-a.invariant;
-}
+pub returns-in_err-of_b : goal.returns-in_err-of_b
+returns-in_err-of_b g c =
+    let p = err_from_is_err_and c.from_residual.result c.from_residual.ensures.1 in
+    let asked = c.args.asked in
+    rw (p.1, p.2)
+    (record {
+      written = text_unbegun (IsTextOf asked.rule asked.query c.args.in_a.now c.args.in_b.now) (g.O.Sink.seen c.args.out.now)
+          (some_text_of asked.rule asked.query c.args.in_a.now c.args.in_b.now c.requires.a_sound c.requires.b_sound);
+    })
 
 pub returns-in_err-offer_row : goal.returns-in_err-offer_row
 returns-in_err-offer_row g c =
-    let p = err_from_is_err_and c.from_residual.result c.from_residual.ensures.1 in
-    let row = c.in_err-offer_row.ensures.offered in
-    let rest = drop (c.loop-a.a-index + 1) c.args.in_a.now in
-    rw p.1
+    let p = err_from_is_err_and c.from_residual-in_err-offer_row.result c.from_residual-in_err-offer_row.ensures.1 in
+    let i = c.loop-a.a-index in
+    let asked = c.args.asked in
+    let fault = c.in_err-offer_row.field-0.0 in
+    let figures = (λ j. map (λ b. b.figure) (c.as_mut_slice.ensures.value j)) ∙ c.loop-a.invariant.same_b in
+    rw (p.1, p.2)
     (record {
-      offered = text_failed p.0 (λ a. IsRowOf a c.args.in_b.now Mod2) c.args.in_a.now c.loop-a.a-index _ _ _ _ _ row.text c.a-item.is
-          c.loop-a-test.true c.loop-a.invariant row.is_text row.offered.front
-          (some_text_of rest c.args.in_b.now Mod2
-          (All-drop HasPointsAlone (c.loop-a.a-index + 1) c.args.in_a.now c.requires.a_points) c.requires.b_points);
+      written = text_ended fault (IsRowOf asked.rule asked.query c.args.in_b.now) c.args.in_a.now i _ c.a-item.result _ _ _
+          c.a-item.is c.loop-a-test.true c.loop-a.invariant.rows
+          (subst (λ (in_b : List Figure). IsTextWritten (IsRowOf asked.rule asked.query in_b c.a-item.result) (Err fault)
+          (g.O.Sink.seen c.loop-a.out) (g.O.Sink.seen c.offer_row.new.out))
+          figures c.in_err-offer_row.ensures.written)
+          (some_text_of asked.rule asked.query (drop (i + 1) c.args.in_a.now) c.args.in_b.now
+          (All-drop IsSound (i + 1) c.args.in_a.now c.requires.a_sound) c.requires.b_sound);
     })
+
+pub loop-a-preserved : goal.loop-a-preserved
+loop-a-preserved g c =
+    let asked = c.args.asked in
+    let row = c.in_ok-offer_row.ensures.written in
+    let kept = c.offer_row.new.in_b in
+    let long : length kept ≡ c.loop-a.of_b.len = omega (arith, c.offer_row.auto.in_b, c.as_mut_slice.ensures.len) in
+    let figures = (λ j. map (λ b. b.figure) (c.as_mut_slice.ensures.value j)) ∙ c.loop-a.invariant.same_b in
+    record {
+      same_b = ap (map (λ b. b.figure)) (with_items_is c.loop-a.of_b kept long) ∙ c.in_ok-offer_row.ensures.kept ∙ figures;
+      rows = taken_more (IsRowOf asked.rule asked.query c.args.in_b.now) c.args.in_a.now c.loop-a.a-index _ c.a-item.result _ _ _ row.text
+          c.a-item.is c.loop-a-test.true c.loop-a.invariant.rows
+          (subst (λ (in_b : List Figure). IsRowOf asked.rule asked.query in_b c.a-item.result row.text) figures row.is_text) row.written;
+    }
