@@ -1,0 +1,4 @@
+pub mod RingLists
+pub mod Entries
+pub mod EarlierAreas
+pub mod FirstFaults
