@@ -1,3 +1,4 @@
+pub mod FewPoints
 pub mod RingLists
 pub mod Entries
 pub mod EarlierAreas

@@ -1,4 +1,4 @@
-ghost use Rattle.std.specs.Prelude.{◌≡◌, ◌↔◌, IfOk, IsTrue};
+ghost use Rattle.std.specs.Prelude.{◌≡◌, ◌≢◌, ◌↔◌, ◌⊎◌, All, Contains, IfNone, IfOk, IfSome, IsTrue};
 ghost use Rattle.point_set.specs.Shape.{IsAreaShaped, IsRingShaped};
 ghost use Rattle.point_set.specs.Validity.{AreasShareSegment, CrossesItself, HasTooFewPoints, RingsShareSegment};
 
@@ -6,26 +6,46 @@ use plane_exact::{NoMemory, Path, Pt};
 use point_set::Area;
 use std::alloc::Global;
 
-/// Whether two positions are one.
-fn is_same(a: Pt, b: Pt) -> bool
-    ensures same { IsTrue result ↔ (a ≡ b) }
-{
-    a.x == b.x && a.y == b.y
-}
-
 /// Whether a ring has fewer than three distinct positions. Takes no memory.
 pub(crate) fn has_too_few(ring: &Path) -> bool
     ensures few { IsTrue result ↔ HasTooFewPoints ring.now }
 {
     match ring.as_slice().split_first() {
         None => true,
-        Some((first, others)) => match others.iter().find(|p| !is_same(*first, **p)) {
+        Some((first, others)) => match other_than(*first, others) {
             None => true,
-            Some(second) => others
-                .iter()
-                .all(|p| is_same(*first, *p) || is_same(*second, *p)),
+            Some(second) => are_all_of(others, *first, second),
         },
     }
+}
+
+/// The first position that isn't the given one.
+fn other_than(one: Pt, positions: &[Pt]) -> Option<Pt>
+    ensures other { IfSome result (λ p. Contains positions.now p × (p ≢ one)) }
+    ensures none { IfNone result (All (λ p. p ≡ one) positions.now) }
+{
+    positions.iter().copied().find(|p| *p != one)
+}
+
+/// Whether each position is one of two.
+fn are_all_of(positions: &[Pt], one: Pt, other: Pt) -> bool
+    ensures two { IsTrue result ↔ All (λ p. (p ≡ one) ⊎ (p ≡ other)) positions.now }
+{
+    positions.iter().all(|p| is_one_of(p, one, other))
+}
+
+/// Whether a position is one of two.
+fn is_one_of(p: &Pt, one: Pt, other: Pt) -> bool
+    ensures two { IsTrue result ↔ ((p.now ≡ one) ⊎ (p.now ≡ other)) }
+{
+    is_equal(p, one) || is_equal(p, other)
+}
+
+/// Whether two positions are equal.
+fn is_equal(p: &Pt, q: Pt) -> bool
+    ensures same { IsTrue result ↔ (p.now ≡ q) }
+{
+    *p == q
 }
 
 /// Whether a ring crosses or touches itself.
