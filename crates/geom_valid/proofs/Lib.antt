@@ -1,2 +1,5 @@
+pub mod FewPoints
+pub mod RingLists
+pub mod Entries
+pub mod EarlierAreas
 pub mod FirstFaults
-pub mod Laws

@@ -1,1 +1,4 @@
+pub mod RowSections
+pub mod Entries
+pub mod Grounds
 pub mod Faults

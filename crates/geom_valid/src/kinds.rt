@@ -43,3 +43,10 @@ impl From<NoMemory> for AdmitFault {
         AdmitFault::NoMemory
     }
 }
+
+/// A fault of a figure: the clause, and the number of the area that fails it, counted from 1.
+#[derive(Clone, Copy, Debug, PartialEq, Eq)]
+pub(crate) struct Fault {
+    pub(crate) kind: InvalidKind,
+    pub(crate) element: u32,
+}

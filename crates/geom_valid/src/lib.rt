@@ -1,8 +1,18 @@
-//! Validity: a figure is admitted where no area fails a clause, and else its first fault is told.
+//! Whether a figure is valid, with its first fault where it isn't.
 #![tactic(auto)]
 
 mod admission;
+mod clauses;
+mod cycle;
+mod disc;
+mod elements;
+mod entering;
+mod fault;
+mod sound_area;
 mod kinds;
+mod rings;
+mod ring_set;
+mod rows;
 
 pub use admission::admit;
 pub use kinds::{AdmitFault, InvalidKind};

@@ -25,13 +25,15 @@ no_more : (xs : List Seg) → xs ++ [] ≡ xs
 no_more [] = refl
 no_more (x ∷ xs) = ap (λ ys. x ∷ ys) (no_more xs)
 
-disc_edges : (ring : List Pt) → edges_in (disc_of ring) ≡ edges_of ring
+-- the edges of a ring read as an area are its own
+pub disc_edges : (ring : List Pt) → edges_in (disc_of ring) ≡ edges_of ring
 disc_edges ring = no_more (edges_of ring)
 
-disc_shaped : (ring : List Pt) → IsRingShaped ring → IsAreaShaped (disc_of ring)
+-- such an area has the shape of one, and is clean
+pub disc_shaped : (ring : List Pt) → IsRingShaped ring → IsAreaShaped (disc_of ring)
 disc_shaped ring shaped = record { shell = shaped; holes = All-nil IsRingShaped }
 
-disc_clean : (ring : List Pt) → IsSimpleRing ring → IsClean (disc_of ring)
+pub disc_clean : (ring : List Pt) → IsSimpleRing ring → IsClean (disc_of ring)
 disc_clean ring r = record {
   shaped = disc_shaped ring r.shaped;
   simple = All-cons (λ w. ¬ CrossesItself w) ring [] r.simple (All-nil (λ w. ¬ CrossesItself w));
@@ -58,7 +60,8 @@ inside_off p ring h = flip (is_on_edges p (edges_of ring)) (and_parts (not (is_o
 on_outside : (p : Point) (ring : List Pt) → is_on_edges p (edges_of ring) ≡ true → is_inside p ring ≡ false
 on_outside p ring h = ap (λ b. not b && is_odd p (edges_of ring)) h
 
-disc_location : (p : Point) (ring : List Pt) → location (disc_of ring) p ≡ location_by (is_on_edges p (edges_of ring))
+-- by the two tests of the ring
+pub disc_location : (p : Point) (ring : List Pt) → location (disc_of ring) p ≡ location_by (is_on_edges p (edges_of ring))
     (is_inside p ring) false
 disc_location p ring = ap (λ es. location_by (is_on_edges p es) (is_inside p ring) false) (disc_edges ring)
 
@@ -86,7 +89,8 @@ from_exterior p ring h = go (is_on_edges p (edges_of ring)) (is_inside p ring) (
     go false false e = refl
 
 -- ---- edges of discs
-swapped : {xs ys : List Seg} → EdgesShareSegment xs ys → EdgesShareSegment ys xs
+-- a common segment is one of both
+pub swapped : {xs ys : List Seg} → EdgesShareSegment xs ys → EdgesShareSegment ys xs
 swapped h = record {
   i = h.j;
   j = h.i;
@@ -97,7 +101,8 @@ swapped h = record {
   share = record { a = h.share.a; b = h.share.b; apart = h.share.apart; held = λ p on. let both = h.share.held p on in (both.1, both.0) };
 }
 
-discs_unshared : (one other : List Pt) → ¬ EdgesShareSegment (edges_of one) (edges_of other)
+-- rings without a common segment, read as areas
+pub discs_unshared : (one other : List Pt) → ¬ EdgesShareSegment (edges_of one) (edges_of other)
     → ¬ AreasShareSegment (disc_of one) (disc_of other)
 discs_unshared one other unshared h = unshared (subst₂ EdgesShareSegment (disc_edges one) (disc_edges other) h)
 

@@ -1,0 +1,23 @@
+use Rattle.valid_laws.proofs.Clauses.Laws.{holes_overlap}
+use Rattle.valid_laws.proofs.Clauses.OverAllPoints.{swapped}
+use Rattle.geom_valid.proofs.Entries.{by_first, by_second}
+use Rattle.geom_valid.proofs.disc.Disc.overlaps.Goals as goal
+
+pub enters-requires-else-branch-clause-unshared : goal.enters-requires-else-branch-clause-unshared
+enters-requires-else-branch-clause-unshared c = λ h. c.requires.unshared (swapped h)
+
+pub returns-then-branch : goal.returns-then-branch
+returns-then-branch c =
+    let simple = c.enters.ensures.simple in
+    record {
+      overlaps = by_first c.in_ok-enters.field-0 c.if-branch.true c.in_ok-enters.ensures.enters
+          (holes_overlap c.args.self.now c.args.other.now simple.0 simple.1 c.requires.unshared);
+    }
+
+pub returns-in_ok-enters-2 : goal.returns-in_ok-enters-2
+returns-in_ok-enters-2 c =
+    let simple = c.enters.ensures.simple in
+    record {
+      overlaps = by_second c.in_ok-enters.field-0 c.in_ok-enters-2.field-0 c.if-branch.false c.in_ok-enters.ensures.enters
+          c.in_ok-enters-2.ensures.enters (holes_overlap c.args.self.now c.args.other.now simple.0 simple.1 c.requires.unshared);
+    }

@@ -1,0 +1,45 @@
+-- Areas and rings with the rows of their edges.
+use Rattle.std.specs.Prelude.{◌≡◌, ℕ, ◌<◌, List, map}
+use Rattle.std.specs.List.{All}
+use Rattle.plane_exact.specs.declared.point.Pt.{Pt}
+use Rattle.point_set.specs.declared.edge.Edge.{Edge}
+use Rattle.point_set.specs.declared.figure.Area.{Area}
+use Rattle.point_set.specs.Edges.{IsAreaHand}
+use Rattle.point_set.specs.Location.{rings_of}
+use Rattle.point_set.specs.Validity.{IsAtPlace, HasTooFewPoints}
+use Rattle.valid_laws.specs.Entering.{edges_in, disc_of, IsClean, IsSimpleRing, AreBothInside}
+use Rattle.geom_valid.specs.RowSections.{AreOfOneArea, IsRowSound}
+
+-- The rows are an area's edges in order, each with the hand on which the inside of the area lies.
+pub record AreRowsOf (area : Area) (rows : List Edge) : Type 0 where
+  pub segs : map (λ row. row.seg) rows ≡ edges_in area
+  pub hands : All (λ row. IsAreaHand area row.seg row.hand) rows
+
+-- A ring that doesn't cross itself, and the rows of its edges, read as those of the area inside it.
+pub record IsDisc (ring : List Pt) (rows : List Edge) : Type 0 where
+  pub simple : IsSimpleRing ring
+  pub rows_are : AreRowsOf (disc_of ring) rows
+  pub sound : All IsRowSound rows
+  pub one_area : AreOfOneArea rows
+
+-- A clean area of which each ring has three distinct positions.
+pub record IsSoundArea (area : Area) : Type 0 where
+  pub clean : IsClean area
+  pub enough : All (λ ring. ¬ HasTooFewPoints ring) (rings_of area)
+
+-- A clean area, and the rows of its edges.
+pub record IsSoundWith (area : Area) (rows : List Edge) : Type 0 where
+  pub sound : IsSoundArea area
+  pub rows_are : AreRowsOf area rows
+  pub sound_rows : All IsRowSound rows
+  pub one_area : AreOfOneArea rows
+
+-- Some point is inside the ring at a place of a list and inside an earlier one.
+pub record OverlapsEarlierHole (holes : List (List Pt)) (place : ℕ) : Type 0 where
+  pub before : ℕ
+  pub earlier : before < place
+  pub one : List Pt
+  pub other : List Pt
+  pub one_is : IsAtPlace holes before one
+  pub other_is : IsAtPlace holes place other
+  pub both : AreBothInside one other

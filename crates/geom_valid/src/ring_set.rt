@@ -1,0 +1,124 @@
+ghost use Rattle.std.specs.Prelude.{◌≡◌, All, IfOk};
+ghost use Rattle.point_set.specs.Shape.{IsRingShaped};
+ghost use Rattle.point_set.specs.Validity.{CrossesItself, HasTooFewPoints};
+
+use crate::disc::Disc;
+use plane_exact::{ItemList, NoMemory};
+use point_set::{Area, Paths};
+use std::alloc::Global;
+use std::marker::Model;
+
+/// An area of which no ring crosses or touches itself and no two have a common segment, with the edges of each ring.
+#[derive(Debug, Drop)]
+pub(crate) struct RingSet<'a> {
+    area: &'a Area,
+    shell: Disc<'a>,
+    holes: ItemList<Disc<'a>>,
+}
+
+impl<'a> Model for RingSet<'a> {
+    ghost use Rattle.std.specs.Prelude.{◌≡◌};
+    ghost use Rattle.point_set.specs.Validity.{RingsShareSegment};
+    ghost use Rattle.point_set.specs.declared.figure.Area.{Area};
+
+    ghost Value = { Area };
+
+    ghost view = { λ s. s.area.now };
+
+    ghost invariant = { λ s. (s.shell ≡ s.area.now.shell) × (s.holes ≡ s.area.now.holes) × (¬ RingsShareSegment s.area.now) };
+}
+
+impl<'a> RingSet<'a> {
+    ghost use Rattle.std.specs.Prelude.{◌≡◌, ◌<◌, ◌↔◌, ℕ, length, All, IfOk, IsTrue, List};
+    ghost use Rattle.plane_exact.specs.declared.point.Pt.{Pt};
+    ghost use Rattle.point_set.specs.Location.{rings_of};
+    ghost use Rattle.point_set.specs.Shape.{IsAreaShaped};
+    ghost use Rattle.point_set.specs.Validity.{CrossesItself, HasHoleOutside, HasHolesThatOverlap, HasTooFewPoints, RingsShareSegment};
+    ghost use Rattle.geom_valid.specs.Grounds.{OverlapsEarlierHole};
+
+    /// The rings of an area.
+    pub(crate) fn of(alloc: Global, area: &'a Area) -> Result<RingSet<'a>, NoMemory>
+        requires shaped { IsAreaShaped area.now }
+        requires enough { All (λ ring. ¬ HasTooFewPoints ring) (rings_of area.now) }
+        requires simple { All (λ ring. ¬ CrossesItself ring) (rings_of area.now) }
+        requires unshared { ¬ RingsShareSegment area.now }
+        ensures area { IfOk result (λ rings. rings ≡ area.now) }
+    {
+        let shell = Disc::of(alloc, &area.shell)?;
+        let holes = discs_of(alloc, &area.holes)?;
+        Ok(RingSet { area, shell, holes })
+    }
+
+    /// The area.
+    pub(crate) fn area(&self) -> &Area
+        ensures area { result.now ≡ self.now }
+    {
+        self.area
+    }
+
+    /// The shell.
+    pub(crate) fn shell(&self) -> &Disc<'a>
+        ensures shell { result.now ≡ self.now.shell }
+    {
+        &self.shell
+    }
+
+    /// The holes.
+    pub(crate) fn holes(&self) -> &[Disc<'a>]
+        ensures holes { result.now ≡ self.now.holes }
+    {
+        self.holes.as_slice()
+    }
+
+    /// Whether some point is inside a hole and not inside the shell.
+    pub(crate) fn has_hole_outside(&self, alloc: Global) -> Result<bool, NoMemory>
+        ensures outside { IfOk result (λ b. IsTrue b ↔ HasHoleOutside self.now) }
+    {
+        for hole in self.holes.as_slice() {
+            if hole.leaves(alloc, &self.shell)? {
+                return Ok(true);
+            }
+        }
+        Ok(false)
+    }
+
+    /// Whether some point is inside two holes.
+    pub(crate) fn has_holes_that_overlap(&self, alloc: Global) -> Result<bool, NoMemory>
+        ensures overlap { IfOk result (λ b. IsTrue b ↔ HasHolesThatOverlap self.now) }
+    {
+        for place in 0..self.holes.len() {
+            if self.overlaps_earlier(alloc, place)? {
+                return Ok(true);
+            }
+        }
+        Ok(false)
+    }
+
+    /// Whether some point is inside the hole at a place and inside an earlier one.
+    fn overlaps_earlier(&self, alloc: Global, place: usize) -> Result<bool, NoMemory>
+        requires place { place < length self.now.holes }
+        ensures overlap { IfOk result (λ b. IsTrue b ↔ OverlapsEarlierHole self.now.holes place) }
+    {
+        let hole = self.holes.at(place);
+        for earlier in 0..place {
+            if self.holes.at(earlier).overlaps(alloc, hole)? {
+                return Ok(true);
+            }
+        }
+        Ok(false)
+    }
+}
+
+/// Holes with their edges.
+fn discs_of<'a>(alloc: Global, holes: &'a Paths) -> Result<ItemList<Disc<'a>>, NoMemory>
+    requires shaped { All IsRingShaped holes.now }
+    requires enough { All (λ ring. ¬ HasTooFewPoints ring) holes.now }
+    requires simple { All (λ ring. ¬ CrossesItself ring) holes.now }
+    ensures discs { IfOk result (λ discs. discs ≡ holes.now) }
+{
+    let mut discs = ItemList::new(alloc);
+    for hole in holes.as_slice() {
+        discs.push(Disc::of(alloc, hole)?)?;
+    }
+    Ok(discs)
+}

