@@ -1,4 +1,3 @@
-pub mod FewPoints
 pub mod RingLists
 pub mod Entries
 pub mod EarlierAreas

@@ -1,19 +1,14 @@
 -- Areas and rings with the rows of their edges.
-use Rattle.std.specs.Prelude.{◌≡◌, ℕ, ◌<◌, List, map}
+use Rattle.std.specs.Prelude.{ℕ, ◌<◌, List}
 use Rattle.std.specs.List.{All}
 use Rattle.plane_exact.specs.declared.point.Pt.{Pt}
 use Rattle.point_set.specs.declared.edge.Edge.{Edge}
 use Rattle.point_set.specs.declared.figure.Area.{Area}
-use Rattle.point_set.specs.Edges.{IsAreaHand}
 use Rattle.point_set.specs.Location.{rings_of}
 use Rattle.point_set.specs.Validity.{IsAtPlace, HasTooFewPoints}
-use Rattle.valid_laws.specs.Entering.{edges_in, disc_of, IsClean, IsSimpleRing, AreBothInside}
-use Rattle.geom_valid.specs.RowSections.{AreOfOneArea, IsRowSound}
-
--- The rows are an area's edges in order, each with the hand on which the inside of the area lies.
-pub record AreRowsOf (area : Area) (rows : List Edge) : Type 0 where
-  pub segs : map (λ row. row.seg) rows ≡ edges_in area
-  pub hands : All (λ row. IsAreaHand area row.seg row.hand) rows
+use Rattle.valid_laws.specs.Entering.{disc_of, IsClean, IsSimpleRing, AreBothInside}
+use Rattle.area_entry.specs.Grounds.{AreRowsOf}
+use Rattle.area_entry.specs.RowSections.{AreOfOneArea, IsRowSound}
 
 -- A ring that doesn't cross itself, and the rows of its edges, read as those of the area inside it.
 pub record IsDisc (ring : List Pt) (rows : List Edge) : Type 0 where

@@ -1,4 +1,2 @@
-pub mod RowSections
-pub mod Entries
 pub mod Grounds
 pub mod Faults

@@ -2,7 +2,7 @@ ghost use Rattle.std.specs.Prelude.{◌↔◌, IfOk, IsTrue};
 ghost use Rattle.point_set.specs.Shape.{IsAreaShaped};
 ghost use Rattle.point_set.specs.Validity.{CrossesItself, HasTooFewPoints, SomeRing};
 
-use crate::rings::{crosses_itself, has_too_few};
+use ring_faults::{crosses_itself, has_too_few};
 use plane_exact::NoMemory;
 use point_set::Area;
 use std::alloc::Global;

@@ -1,4 +1,4 @@
-use crate::entering::enters;
+use area_entry::enters;
 use crate::rows::ring_rows;
 use area_locator::ring_locate;
 use im_matrix::Loc;

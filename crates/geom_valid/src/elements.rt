@@ -5,7 +5,7 @@ ghost use Rattle.point_set.specs.Shape.{IsWellShaped};
 ghost use Rattle.point_set.specs.Validity.{AreasOverlap, AreasShareSegment, IsAtPlace, SomeEarlier};
 
 use crate::ring_set::RingSet;
-use crate::rings::areas_share;
+use ring_faults::areas_share;
 use crate::sound_area::SoundArea;
 use plane_exact::NoMemory;
 use point_set::{Area, Figure};

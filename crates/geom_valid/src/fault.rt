@@ -4,10 +4,10 @@ ghost use Rattle.point_set.specs.Shape.{IsWellShaped};
 ghost use Rattle.point_set.specs.Validity.{IsValid};
 
 use crate::clauses::{has_ring_that_crosses, has_ring_with_too_few};
-use crate::cycle::has_cycle;
+use ring_faults::has_cycle;
 use crate::elements::{overlaps_earlier, shares_with_earlier};
 use crate::kinds::{Fault, InvalidKind};
-use crate::rings::rings_share;
+use ring_faults::rings_share;
 use crate::sound_area::SoundArea;
 use crate::ring_set::RingSet;
 use plane_exact::NoMemory;

@@ -3,14 +3,11 @@
 
 mod admission;
 mod clauses;
-mod cycle;
 mod disc;
 mod elements;
-mod entering;
 mod fault;
 mod sound_area;
 mod kinds;
-mod rings;
 mod ring_set;
 mod rows;
 

@@ -1,6 +1,7 @@
 ghost use Rattle.std.specs.Prelude.{IfOk, All};
-ghost use Rattle.geom_valid.specs.Grounds.{AreRowsOf, IsSoundArea};
-ghost use Rattle.geom_valid.specs.RowSections.{AreOfOneArea, IsRowSound};
+ghost use Rattle.area_entry.specs.Grounds.{AreRowsOf};
+ghost use Rattle.geom_valid.specs.Grounds.{IsSoundArea};
+ghost use Rattle.area_entry.specs.RowSections.{AreOfOneArea, IsRowSound};
 ghost use Rattle.point_set.specs.Shape.{IsRingShaped};
 ghost use Rattle.point_set.specs.Validity.{CrossesItself, HasTooFewPoints};
 ghost use Rattle.valid_laws.specs.Entering.{disc_of};

@@ -1,5 +1,5 @@
 use crate::disc::Disc;
-use crate::entering::enters;
+use area_entry::enters;
 use crate::ring_set::RingSet;
 use crate::rows::area_rows;
 use area_locator::locate_plain;

@@ -9,7 +9,7 @@ use Rattle.point_set.specs.Rings.{edges_of, is_inside, is_on_edges}
 use Rattle.point_set.specs.Validity.{EdgesShareSegment, IsAtPlace}
 use Rattle.valid_laws.specs.Entering.{disc_of, edges_in}
 use Rattle.valid_laws.proofs.Clauses.OverAllPoints.{disc_clean, disc_edges, disc_location}
-use Rattle.geom_valid.specs.Entries.{BeginsIn}
+use Rattle.area_entry.specs.Entries.{BeginsIn}
 use Rattle.geom_valid.specs.Grounds.{IsDisc}
 use Rattle.geom_valid.proofs.disc.Disc.enters.Goals as goal
 

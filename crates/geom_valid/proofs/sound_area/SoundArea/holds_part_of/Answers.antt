@@ -5,7 +5,7 @@ use Rattle.plane_exact.specs.NodePoints.{point_at}
 use Rattle.point_set.specs.declared.figure.Area.{Area}
 use Rattle.point_set.specs.Location.{location}
 use Rattle.valid_laws.proofs.Clauses.OverAllPoints.{disc_edges}
-use Rattle.geom_valid.specs.Entries.{BeginsIn}
+use Rattle.area_entry.specs.Entries.{BeginsIn}
 use Rattle.geom_valid.specs.Grounds.{IsDisc, IsSoundWith}
 use Rattle.geom_valid.proofs.sound_area.SoundArea.holds_part_of.Goals as goal
 

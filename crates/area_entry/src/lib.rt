@@ -1,0 +1,11 @@
+//! Whether a ring enters a part of an area, by the hands of the edges where the two meet.
+#![tactic(auto)]
+
+mod entering;
+#[cfg(test)]
+mod entering_tests;
+mod germ;
+mod sections;
+
+pub use entering::enters;
+pub use sections::sections_at;

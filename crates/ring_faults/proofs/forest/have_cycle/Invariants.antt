@@ -1,0 +1,10 @@
+-- The labels are those of the links before the place.
+use Rattle.std.proofs.Common.{◌≡◌, ◌+◌, length, take}
+use Rattle.ring_faults.specs.Links.{IsForest}
+use Rattle.ring_faults.proofs.forest.have_cycle.Given as goal
+
+abbrev pub invariant-loop-i : goal.invariant-loop-i
+invariant-loop-i l = record {
+  forest : IsForest (take l.i l.links) l.labels.items;
+  count : length l.labels.items ≡ l.last + 1;
+}

@@ -1,0 +1,26 @@
+ghost use Rattle.std.specs.Prelude.{◌↔◌, IfOk, IsTrue};
+ghost use Rattle.point_set.specs.Shape.{IsAreaShaped};
+ghost use Rattle.point_set.specs.Validity.{HasTouchCycle, RingsShareSegment};
+
+use crate::forest::have_cycle;
+use crate::link::sort_links;
+use crate::part::edges_by_ring;
+use crate::touch::links_of;
+use plane_exact::NoMemory;
+use point_set::Area;
+use std::alloc::Global;
+
+/// Whether the rings of an area touch in a cycle, so that its interior is cut. No two of them have a common segment.
+///
+/// # Errors
+/// `NoMemory`, also where the area has more than 1,048,576 edges.
+pub fn has_cycle(alloc: Global, area: &Area) -> Result<bool, NoMemory>
+    requires shaped { IsAreaShaped area.now }
+    requires unshared { ¬ RingsShareSegment area.now }
+    ensures cycle { IfOk result (λ b. IsTrue b ↔ HasTouchCycle area.now) }
+{
+    let edges = edges_by_ring(alloc, area)?;
+    let mut links = links_of(alloc, edges)?;
+    sort_links(&mut links);
+    have_cycle(alloc, links.as_slice(), area.holes.len())
+}

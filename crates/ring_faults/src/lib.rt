@@ -1,0 +1,14 @@
+//! The faults of rings among themselves: too few positions, edges that cross, common segments, touches in a cycle.
+#![tactic(auto)]
+
+mod clash;
+mod cycle;
+mod forest;
+mod link;
+mod near;
+mod part;
+mod rings;
+mod touch;
+
+pub use cycle::has_cycle;
+pub use rings::{areas_share, crosses_itself, has_too_few, rings_share};
