@@ -1,3 +1,4 @@
 pub mod Edges
 pub mod Entering
 pub mod Clauses
+pub mod Hands

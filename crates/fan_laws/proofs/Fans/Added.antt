@@ -18,7 +18,7 @@ use Rattle.fan_order.specs.declared.section.Section.{Section}
 use Rattle.fan_order.specs.Sections.{IsSectionOfEdge, IsSectionToward, IsSectionAt, AreToward, AreSectionsOf}
 
 -- the way back of the way back
-twice_other : (forward : Bool) (side : Hand) → hand_of_way forward (hand_of_way forward side) ≡ side
+pub twice_other : (forward : Bool) (side : Hand) → hand_of_way forward (hand_of_way forward side) ≡ side
 twice_other true side = refl
 twice_other false hand.Line = refl
 twice_other false hand.Left = refl

@@ -100,12 +100,12 @@ on_edges_from area v = go (is_on_edges v (edges_of_rings (rings_of area))) (is_i
     go false false h e = cc
 
 -- an end that isn't v
-record HasAway (e : Seg) (v : Point) : Type 0 where
-  forward : Bool
-  away : ¬ IsSamePoint (point_of (far_end forward e)) v
+pub record HasAway (e : Seg) (v : Point) : Type 0 where
+  pub forward : Bool
+  pub away : ¬ IsSamePoint (point_of (far_end forward e)) v
 
 -- of an edge that moves one end isn't v
-away_end : (e : Seg) (v : Point) → ¬ IsSamePoint (point_of e.a) (point_of e.b) → HasAway e v
+pub away_end : (e : Seg) (v : Point) → ¬ IsSamePoint (point_of e.a) (point_of e.b) → HasAway e v
 away_end e v moves = go (is_same_point (point_of e.b) v) refl
   where
     go : (b : Bool) → is_same_point (point_of e.b) v ≡ b → HasAway e v

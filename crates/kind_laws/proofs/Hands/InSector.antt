@@ -221,6 +221,30 @@ way_inside area e false hand.Left h on c t left q one = (λ _. h.inside q one t 
 way_inside area e false hand.Right h on c t left q one = (λ z. cc, λ _. h.outside q one t (right_backward e on c t left))
 way_inside area e false hand.Line h on c t left q one = (λ z. cc, λ z. cc)
 
+-- ---- where near v only e is met along the way, the sector after the way is inside the area or outside by the hand
+module _ (area : Area) (shaped : IsAreaShaped area) (e : Seg) (forward : Bool) (v : Point) (on : IsOnEdge e v) (r : Direction)
+    (c : IsInCone v r r (point_of (far_end forward e))) (bound : ℕ)
+    (alone : (n : ℕ) → bound < suc n → IsOnEdgeAlone area e (away_point v r n)) where
+  pub hand_where_alone : (side : Hand) → IsAreaHand area e (hand_of_way forward side) → (s : Direction) → HasNoEdgeWithin area v r s
+      → (d : Direction) → IsStrictlyWithin r s d
+      → (side ≡ hand.Left → IsGerm area v d Interior) × (side ≡ hand.Right → IsGerm area v d Exterior)
+  hand_where_alone side h s free d within = (λ z. to_germ Interior (ways.0 z), λ z. to_germ Exterior (ways.1 z))
+    where
+      n : ℕ
+      n = bound + reach area shaped v r
+
+      q : Point
+      q = away_point v r n
+
+      t : Direction
+      t = left_turn r
+
+      ways : (side ≡ hand.Left → IsGerm area q t Interior) × (side ≡ hand.Right → IsGerm area q t Exterior)
+      ways = way_inside area e forward side h on c t (left_turn_left r) q (alone n (omega arith))
+
+      to_germ : (g : Loc) → IsGerm area q t g → IsGerm area v d g
+      to_germ g g_is = germ_after area shaped v r s free n (omega arith) t (left_turn_left r) g g_is d within
+
 -- ---- near a point of the edge, on the way, the edge is alone
 abbrev spot : Pt → Seg
 spot a = record { a = a; b = a }
@@ -316,22 +340,4 @@ module _ (f : Figure) (shaped : IsWellShaped f) (valid : IsValid f) (place : ℕ
   pub hand_in_sector : (side : Hand) → IsAreaHand area e (hand_of_way forward side) → (s : Direction) → HasNoEdgeWithin area v r s
       → (d : Direction) → IsStrictlyWithin r s d
       → (side ≡ hand.Left → IsGerm area v d Interior) × (side ≡ hand.Right → IsGerm area v d Exterior)
-  hand_in_sector side h s free d within = (λ z. to_germ Interior (ways.0 z), λ z. to_germ Exterior (ways.1 z))
-    where
-      sh : IsAreaShaped area
-      sh = (area_clean f shaped valid place area is).shaped
-
-      n : ℕ
-      n = way_bound + reach area sh v r
-
-      q : Point
-      q = away_point v r n
-
-      t : Direction
-      t = left_turn r
-
-      ways : (side ≡ hand.Left → IsGerm area q t Interior) × (side ≡ hand.Right → IsGerm area q t Exterior)
-      ways = way_inside area e forward side h on c t (left_turn_left r) q (alone_on_way n (omega arith))
-
-      to_germ : (g : Loc) → IsGerm area q t g → IsGerm area v d g
-      to_germ g g_is = germ_after area sh v r s free n (omega arith) t (left_turn_left r) g g_is d within
+  hand_in_sector = hand_where_alone area (area_clean f shaped valid place area is).shaped e forward v on r c way_bound alone_on_way

@@ -39,6 +39,10 @@ chain_first : (p q : Pt) (edges : List Seg) (e : Seg) → IsChain p edges q → 
 chain_first p q [] e chain is = cc
 chain_first p q (f ∷ edges) e chain is = ap (λ g. g.a) (sym (some_same is)) ∙ chain.0
 
+-- the first edge begins at the first position
+pub first_begins : (p : Pt) (others : List Pt) (e : Seg) → IsAtPlace (edges_after p others) 0 e → e.a ≡ p
+first_begins p others e is = chain_first p (last_after p others) (edges_after p others) e (chain_after p others) is
+
 chain_next : (p q : Pt) (edges : List Seg) (i : ℕ) (e f : Seg) → IsChain p edges q → IsAtPlace edges i e → IsAtPlace edges (suc i) f
     → f.a ≡ e.b
 chain_next p q [] i e f chain is_e is_f = cc

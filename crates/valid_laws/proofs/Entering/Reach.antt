@@ -33,6 +33,7 @@ use Rattle.figure_laws.proofs.Points.Same.{is_on_edges-same}
 use Rattle.side_laws.proofs.Edges.Beside.{held_at}
 use Rattle.meeting_laws.proofs.Meetings.FirstOfOne.{meeting}
 use Rattle.valid_laws.proofs.Edges.Moving.{moving as edges_move}
+use Rattle.valid_laws.proofs.Edges.Sharing.{between_on, share_along}
 use Rattle.valid_laws.specs.Entering.{edges_in, Enters, LawMoving, LawReach}
 use Rattle.meeting_laws.specs.Meetings.{IsFirstMeeting, LawFirstMeeting}
 use Rattle.figure_laws.proofs.Lists.Places.{some_same}
@@ -318,11 +319,6 @@ module _ (first : LawFirstMeeting) (one other : Area) (shaped_one : IsAreaShaped
   on_at_place (e ∷ edges) zero g x is on = or_left (is_on_edge x e) (is_on_edges x edges) (ap (is_on_edge x) (some_same is) ∙ on)
   on_at_place (e ∷ edges) (suc i) g x is on = or_right (is_on_edge x e) (is_on_edges x edges) (on_at_place edges i g x is on)
 
-  -- points between q and another point of an edge are on the edge
-  between_on : (q : Point) (g : Seg) (a : Point) → is_on_edge q g ≡ true → IsOnSegment (point_of g.a) (point_of g.b) a → (x : Point)
-      → IsOnSegment q a x → is_on_edge x g ≡ true
-  between_on q g a on on_a x within = (Decides-is_on_segment (point_of g.a) (point_of g.b) x).1 (segment_within (on_true on) on_a within)
-
   -- no edge runs from q straight on to p
   not_ahead : (area : Area) (l : Loc) → l ≢ Boundary → (q : Point) (d : Direction) → IsGerm area q d l → (i : ℕ) (g : Seg)
       → IsAtPlace (edges_in area) i g → is_on_edge q g ≡ true → (a : Point) → IsOnSegment (point_of g.a) (point_of g.b) a
@@ -334,33 +330,19 @@ module _ (first : LawFirstMeeting) (one other : Area) (shaped_one : IsAreaShaped
       free (sym (germ.holds (suc n) (omega arith) x away) ∙ boundary area x
       (on_at_place (edges_in area) i g x is (between_on q g a on on_a x (toward_on q d a c (suc n) x (omega arith) away))))
 
-  -- two edges that run from q along one direction have a common segment
+  -- so no two edges run from q along one direction
   shared_along : (q : Point) (d : Direction) (i j : ℕ) (g h : Seg) → IsAtPlace (edges_in one) i g → IsAtPlace (edges_in other) j h
       → is_on_edge q g ≡ true → is_on_edge q h ≡ true → (a b : Point) → IsOnSegment (point_of g.a) (point_of g.b) a
       → IsOnSegment (point_of h.a) (point_of h.b) b → IsInCone q d d a → ¬ IsInCone q d d b
-  shared_along q d i j g h is_g is_h on_g on_h a b on_a on_b c k =
-      let n = size_of ((c.times *ℤ q.w) *ℤ a.w) + size_of ((k.times *ℤ q.w) *ℤ b.w) in
-      let x = away_point q d n in
-      let away = away_point_is q d n in
-      let x_g = between_on q g a on_g on_a x (toward_on q d a c (suc n) x (omega arith) away) in
-      let x_h = between_on q h b on_h on_b x (toward_on q d b k (suc n) x (omega arith) away) in
-      unshared (record {
-        i = i;
-        j = j;
-        e = g;
-        f = h;
-        e_is = is_g;
-        f_is = is_h;
-        share = record {
-          a = q;
-          b = x;
-          apart = λ same. direction_pointed q d (segment_cone d (away_cone (omega arith) away) same);
-          held = λ m on. (segment_within (on_true on_g) (on_true x_g) on, segment_within (on_true on_h) (on_true x_h) on);
-        };
-      })
-    where
-      segment_cone : {q x : Point} (d : Direction) → IsInCone q d d x → IsSamePoint q x → IsInCone q d d q
-      segment_cone {q} {x} d c same = cone_mix c c (segment_same (same_refl x) (same_refl x) (same_sym same) (start_on_segment x x))
+  shared_along q d i j g h is_g is_h on_g on_h a b on_a on_b c k = unshared (record {
+    i = i;
+    j = j;
+    e = g;
+    f = h;
+    e_is = is_g;
+    f_is = is_h;
+    share = share_along q d g h on_g on_h a b on_a on_b c k;
+  })
 
   module _ (moving_edges : LawMoving) where
     at_common : {p t q : Point} → IsThere p → IsFirstMeeting all p t q → IsBoth q → Found

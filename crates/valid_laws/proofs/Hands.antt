@@ -1,0 +1,2 @@
+-- The germs of a clean area beside its edges, by their hands.
+pub mod AfterWay
