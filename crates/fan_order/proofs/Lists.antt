@@ -71,7 +71,7 @@ zip_right R [] (y ∷ ys) h = absurd h
 zip_right R (x ∷ xs) (y ∷ ys) h = All-cons (λ z. Any (λ w. R w z) (x ∷ xs)) y ys (Any-here (λ w. R w y) x xs h.0) (All-weaker (λ z. Any (λ w. R w z) xs) (λ z. Any (λ w. R w z) (x ∷ xs)) (λ z k. Any-there (λ w. R w z) x xs k) ys (zip_right R xs ys h.1))
 
 -- the rays of all sections, of which each direction is kept once
-pub AreRaysOf-kept : (sections : List Section) (old rays : List Dir) → AllZip (λ s ray. IsRayOf s.dir ray) sections old → AllPairs (λ d e. compare_angles d e ≡ Less) rays → All (Contains old) rays → All (λ d. Any (IsSameDirection d) rays) old → AreRaysOf sections rays
+AreRaysOf-kept : (sections : List Section) (old rays : List Dir) → AllZip (λ s ray. IsRayOf s.dir ray) sections old → AllPairs (λ d e. compare_angles d e ≡ Less) rays → All (Contains old) rays → All (λ d. Any (IsSameDirection d) rays) old → AreRaysOf sections rays
 AreRaysOf-kept sections old rays zip up only whole = record {
   ascending = up;
   whole = All-weaker (λ s. Any (IsRayOf s.dir) old) (λ s. Any (IsRayOf s.dir) rays) along sections (zip_left (λ s ray. IsRayOf s.dir ray) sections old zip);
@@ -86,6 +86,13 @@ AreRaysOf-kept sections old rays zip up only whole = record {
         let a = All-contains (λ d. Any (IsSameDirection d) rays) old h.1 whole (h.0, h.2, h.3) in
         let low : IsLowest a.1 = (of_section a.1 (All-contains (Contains old) rays a.1 only (a.0, a.2, a.3))).4.lowest in
         (a.0, a.1, a.2, a.3, record { same = joined_ways h.4.same a.4; lowest = low })
+
+-- and so of the list from which the given one was read
+pub rays_kept : (sections given : List Section) (old rays : List Dir) → given ≡ sections
+    → AllZip (λ s ray. IsRayOf s.dir ray) given old → AllPairs (λ d e. compare_angles d e ≡ Less) rays → All (Contains old) rays
+    → All (λ d. Any (IsSameDirection d) rays) old → AreRaysOf sections rays
+rays_kept sections given old rays same zip up only whole =
+    AreRaysOf-kept sections old rays (subst (λ (ss : List Section). AllZip (λ s ray. IsRayOf s.dir ray) ss old) same zip) up only whole
 
 pub short_kept : (old rays : List Dir) → All IsShort old → All (Contains old) rays → All IsShort rays
 short_kept old rays h only = All-weaker (Contains old) IsShort (λ d k. All-contains IsShort old d h k) rays only

@@ -7,7 +7,8 @@ use Rattle.std.specs.List.{All, Any, Contains}
 use Rattle.std.specs.List.Sorted.{IsPermutation, IsSorted}
 use Rattle.std.proofs.lemmas.Bool.Decides.{nat_tests}
 use Rattle.std.proofs.lemmas.List.{take_more}
-use Rattle.std.proofs.lemmas.List.Elements.{All-nil, All-cons, All-append, All-weaker, Contains-append_left, Contains-append_right, Contains-append_cases}
+use Rattle.std.proofs.lemmas.List.Elements.{All-nil, All-cons, All-append, All-weaker}
+use Rattle.std.proofs.lemmas.List.Elements.{Contains-append_left, Contains-append_right, Contains-append_cases}
 use Rattle.std.proofs.lemmas.List.Sorted.{All-permutation, Contains-permutation}
 use Rattle.std.proofs.lemmas.Option.{slice_get_within, get_or_from_slice_get}
 use Rattle.figure_laws.proofs.Lists.Items.{place_left}
@@ -55,8 +56,8 @@ passes_joined which way ss ts ps qs a b = record {
         record { pass = p.pass; there = Contains-append_right ps qs p.pass p.there; area_is = p.area_is; place_is = p.place_is }
 
 -- and of one section more
-pub passes_more : (which : Which) (way : List Dir) (sections : List Section) (i : ℕ) (s : Section) (old new : List Pass) → i < length sections
-    → s ≡ get_or sections i s → ArePasses which way (take i sections) old → AddsPasses which way s old new
+pub passes_more : (which : Which) (way : List Dir) (sections : List Section) (i : ℕ) (s : Section) (old new : List Pass)
+    → i < length sections → s ≡ get_or sections i s → ArePasses which way (take i sections) old → AddsPasses which way s old new
     → ArePasses which way (take (i + 1) sections) new
 passes_more which way sections i s old new below is are adds =
     subst (λ (ps : List Pass). ArePasses which way (take (i + 1) sections) ps) (sym adds.new_is)
@@ -180,11 +181,15 @@ compare_passes a b =
 up_to : (a b : Pass) → is_lt (compare_passes b a) ≡ false → IsUpTo a b
 up_to a b not = by_area (nat_cmp b.area a.area) refl
   where
-    less_area : (o : Ordering) → nat_cmp b.area a.area ≡ o → is_lt (ordering_then o (ordering_then (nat_cmp b.place a.place) (bool_cmp b.enters a.enters))) ≡ false
-    less_area o e = subst (λ (p : Ordering). is_lt (ordering_then p (ordering_then (nat_cmp b.place a.place) (bool_cmp b.enters a.enters))) ≡ false) e not
+    not_less : (o p : Ordering) → nat_cmp b.area a.area ≡ o → nat_cmp b.place a.place ≡ p
+        → is_lt (ordering_then o (ordering_then p (bool_cmp b.enters a.enters))) ≡ false
+    not_less o p e f =
+        subst (λ (q : Ordering). is_lt (ordering_then o (ordering_then q (bool_cmp b.enters a.enters))) ≡ false) f
+        (subst (λ (q : Ordering). is_lt (ordering_then q (ordering_then (nat_cmp b.place a.place) (bool_cmp b.enters a.enters))) ≡ false) e
+        not)
 
     by_area : (o : Ordering) → nat_cmp b.area a.area ≡ o → IsUpTo a b
-    by_area Less e = absurd (let z = less_area Less e in cc)
+    by_area Less e = absurd (let z = not_less Less (nat_cmp b.place a.place) e refl in cc)
     by_area Greater e =
         let more : a.area < b.area = grind (arith, nat_tests, e) in
         record { area = omega (arith, more); place = λ same. absurd (omega (arith, more, same)) }
@@ -194,7 +199,7 @@ up_to a b not = by_area (nat_cmp b.area a.area) refl
       where
         by_place : (o : Ordering) → nat_cmp b.place a.place ≡ o → a.place ≤ b.place
         by_place Less f =
-            absurd (let z = subst (λ (p : Ordering). is_lt (ordering_then p (bool_cmp b.enters a.enters)) ≡ false) f (less_area Equal e) in cc)
+            absurd (let z = not_less Equal Less e f in cc)
         by_place Equal f = grind (arith, nat_tests, f)
         by_place Greater f = grind (arith, nat_tests, f)
 
@@ -215,7 +220,10 @@ in_order_by : (passes : List Pass) → IsSorted compare_passes passes → (d i :
     → IsAtPlace passes (i + d) b → IsUpTo a b
 in_order_by passes sorted zero i a b a_is b_is =
     let same : a ≡ b = some_same (sym a_is ∙ ap (λ (n : ℕ). slice_get passes n) (let z : i ≡ i + 0 = omega arith in z) ∙ b_is) in
-    record { area = subst (λ (x : Pass). a.area ≤ x.area) same (omega arith); place = λ _. subst (λ (x : Pass). a.place ≤ x.place) same (omega arith) }
+    record {
+      area = subst (λ (x : Pass). a.area ≤ x.area) same (omega arith);
+      place = λ _. subst (λ (x : Pass). a.place ≤ x.place) same (omega arith);
+    }
 in_order_by passes sorted (suc d) i a b a_is b_is =
     let b_is' : IsAtPlace passes (i + d + 1) b =
     subst (λ (n : ℕ). IsAtPlace passes n b) (let z : i + suc d ≡ i + d + 1 = omega arith in z) b_is in

@@ -297,7 +297,9 @@ module _ (which : Which) (sections : List Section) (alike : AreHandsAlike which 
         same_place : (last.item.place ≡ l.place) ⊎ (last.item.place ≡ l.place → ⊥) → last.item.place ≡ l.place
         same_place (inl same) = same
         same_place (inr apart) =
-            absurd (l.none last.item.place p.is.ray p.s (omega (arith, low, apart)) (let u = last.holds.up_to in omega (arith, u)) p.is.ray_is p.there along)
+            absurd
+            (l.none last.item.place p.is.ray p.s (omega (arith, low, apart)) (let u = last.holds.up_to in omega (arith, u)) p.is.ray_is
+            p.there along)
 
         enters : IsTrue last.item.enters
         enters =

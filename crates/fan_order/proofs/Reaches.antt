@@ -62,7 +62,9 @@ raised reach passes i pass pass_is enters within until until_is place beyond = g
 
     back : (place ≡ pass.place) → (beyond < slice_index reach place) ⊎ IsOpened passes (length reach) i place beyond
         → beyond < max (slice_index reach pass.place) until
-    back same (inl far) = let far' : beyond < slice_index reach pass.place = subst (λ (p : ℕ). beyond < slice_index reach p) same far in omega (arith, far')
+    back same (inl far) =
+        let far' : beyond < slice_index reach pass.place = subst (λ (p : ℕ). beyond < slice_index reach p) same far in
+        omega (arith, far')
     back same (inr o) =
         let e = until_one passes (length reach) i pass pass_is o.until until o.until_is until_is in
         let far = o.far in

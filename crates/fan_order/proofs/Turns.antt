@@ -1,5 +1,6 @@
 -- What the two turns round the rays find is what the hands say of the sectors.
-use Rattle.std.proofs.Common.{◌≡◌, ◌↔◌, ℕ, ◌+◌, ◌*◌, ◌<◌, Bool, false, IsTrue, List, length, length-append, sym, subst, arith, Result, Ok, Err}
+use Rattle.std.proofs.Common.{◌≡◌, ◌↔◌, ℕ, ◌+◌, ◌*◌, ◌<◌, Bool, false, IsTrue, List, length, length-append, sym, subst, arith}
+use Rattle.std.proofs.Common.{Result, Ok, Err}
 use Rattle.std.specs.Prelude.{slice_index_or, IfOk}
 use Rattle.std.specs.List.Sorted.{IsSorted}
 use Rattle.im_matrix.specs.declared.Which.{Which}
@@ -58,7 +59,8 @@ inside_by_flags which sections alike sided rays passes are sorted reach long rea
     by_flag = flagged (length rays + i) (omega (arith, long, below))
 
     by_reach : IsReachedOver reach (length rays + i) ↔ IsOpenAt passes (length (twice rays)) (length rays + i)
-    by_reach = open_by_reach passes (length (twice rays)) (length rays + i) reach end reaches (omega (arith, below, length-append rays rays))
+    by_reach =
+        open_by_reach passes (length (twice rays)) (length rays + i) reach end reaches (omega (arith, below, length-append rays rays))
 
     by_passes : IsOpenAt passes (length (twice rays)) (length rays + i) ↔ IsSectorInside which sections rays i
     by_passes = inside_by_passes which sections alike sided rays passes are (in_order passes sorted) i below

@@ -1,9 +1,8 @@
 -- Walks round the rays exist: along each ray either a section of the area runs, and its hand decides, or none does.
 use Rattle.std.proofs.Common.{◌≡◌, ◌⊎◌, inl, inr, ℕ, Bool, true, false, Option, Some, None, Less, Equal, Greater, Ordering}
-use Rattle.std.proofs.Common.{◌+◌, ◌<◌, List, [], ◌∷◌, ◌++◌, length, get_or, take, IsTrue, ◌↔◌, ap, refl, sym, ◌∙◌, subst}
+use Rattle.std.proofs.Common.{List, [], ◌∷◌, ◌++◌, IsTrue, ◌↔◌, ap, refl, sym, ◌∙◌, subst}
 use Rattle.std.specs.List.{Contains}
 use Rattle.std.proofs.lemmas.Bool.{cases_eq}
-use Rattle.std.proofs.lemmas.List.{take_more}
 use Rattle.im_matrix.specs.declared.Which.{Which}
 use Rattle.im_matrix.specs.declared.Which.TheVariants.{A, B}
 use Rattle.plane_laws.proofs.Directions.Angles.{joined_ways}
@@ -160,15 +159,6 @@ pub walk_joined : (which : Which) (k : ℕ) (sections : List Section) (xs ys : L
 walk_joined which k sections [] ys before mid after w u = subst (λ b. IsWalk which k sections ys b after) (sym w) u
 walk_joined which k sections (x ∷ xs) ys before mid after w u = (w.0, w.1, walk_joined which k sections xs ys w.0 mid after w.2 u)
 
--- and one ray more
-pub walk_more : (which : Which) (k : ℕ) (sections : List Section) (rays : List Dir) (i : ℕ) (ray : Dir) (before mid after : Bool)
-    → i < length rays → ray ≡ get_or rays i ray → IsWalk which k sections (take i rays) before mid → IsStep which k sections ray mid after
-    → IsWalk which k sections (take (i + 1) rays) before after
-walk_more which k sections rays i ray before mid after below is w step =
-    let more : take (i + 1) rays ≡ take i rays ++ ray ∷ [] = take_more rays i ray below ∙ ap (λ z. take i rays ++ z ∷ []) (sym is) in
-    subst (λ (xs : List Dir). IsWalk which k sections xs before after) (sym more)
-    (walk_joined which k sections (take i rays) (ray ∷ []) before mid after w (after, step, refl))
-
 -- ---- a walk has one end
 -- without the side of each section, a step past a section of the hand Line would be open
 pub step_unique : (which : Which) (k : ℕ) (sections : List Section) → AreSided which sections → (ray : Dir) (before one other : Bool)
@@ -198,23 +188,3 @@ walk_unique which k sections sided [] before one other w u = sym w ∙ u
 walk_unique which k sections sided (ray ∷ rays) before one other w u =
     let same = step_unique which k sections sided ray before w.0 u.0 w.1 u.1 in
     walk_unique which k sections sided rays u.0 one other (subst (λ b. IsWalk which k sections rays b one) same w.2) u.2
-
--- ---- the sections of areas that a sector is inside
--- a section of an area of the figure whose walk ends inside
-abbrev pub IsInsideOf : Which → List Section → List Dir → ℕ → Section → Type 0
-IsInsideOf which sections rays i s =
-    (s.which ≡ which) × ((area : ℕ) × (s.area ≡ Some area) × IsWalk which area sections (rays ++ take (i + 1) rays) false true)
-
--- the end of a walk decides it
-pub inside_of : (which : Which) (sections : List Section) (rays : List Dir) (i : ℕ) (s : Section) → AreSided which sections → (k : ℕ)
-    → s.which ≡ which → s.area ≡ Some k → (b : Bool) → IsWalk which k sections (rays ++ take (i + 1) rays) false b
-    → (IsTrue b ↔ IsInsideOf which sections rays i s)
-inside_of which sections rays i s sided k which_is area_is b w = (
-  λ t. (which_is, (k, area_is, subst (λ z. IsWalk which k sections round false z) t w)),
-  λ h.
-      let same : h.1.0 ≡ k = some_same (sym h.1.1 ∙ area_is) in
-      walk_unique which k sections sided round false b true w (subst (λ (z : ℕ). IsWalk which z sections round false true) same h.1.2),
-)
-  where
-    round : List Dir
-    round = rays ++ take (i + 1) rays

@@ -1,4 +1,5 @@
--- A walk along a way of rays passes the sections of areas that run along them; between two passes of an area it stays inside it, or outside.
+-- A walk along a way of rays passes the sections of areas that run along them. Between two passes of an area it stays inside this
+-- area, or outside.
 use Rattle.std.specs.Prelude.{◌≡◌, ◌↔◌, ℕ, ◌+◌, ◌*◌, ◌<◌, ◌≤◌, false, IsTrue, List, [], ◌∷◌, ◌++◌, length, slice_index, slice_index_or}
 use Rattle.std.specs.List.{All, Any, Contains}
 use Rattle.im_matrix.specs.declared.Which.{Which}

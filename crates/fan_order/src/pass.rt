@@ -1,4 +1,5 @@
-ghost use Rattle.std.specs.Prelude.{◌≡◌, ◌<◌, ◌≤◌, ◌+◌, ◌*◌, ◌++◌, ◌∷◌, [], ◌↔◌, ◌⊎◌, ℕ, length, All, AllPairs, Any, IfOk, IsOk, IfSome, IsNone, IsTrue, Some};
+ghost use Rattle.std.specs.Prelude.{◌≡◌, ◌<◌, ◌≤◌, ◌+◌, ◌*◌, ◌++◌, ◌∷◌, [], ◌↔◌, ◌⊎◌, ℕ, length, All, AllPairs, Any, IfOk, IsOk};
+ghost use Rattle.std.specs.Prelude.{IfSome, IsNone, IsTrue, Some};
 ghost use Rattle.std.specs.Prelude.{slice_index, slice_index_or, false};
 ghost use Rattle.std.specs.declared.cmp.Ordering.TheVariants.{Less};
 ghost use Rattle.plane_exact.specs.Orders.{compare_angles, IsSameDirection};

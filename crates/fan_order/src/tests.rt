@@ -111,3 +111,122 @@ fn a_fan_of_many_sections(rt: HostRuntime) -> Result<(), Fail> {
         &[(2, 2), (-1, 0), (1, -2), (4, 0)],
     )
 }
+
+/// An edge of a ring of an area, along a ray.
+fn beside(dx: i64, dy: i64, hand: Hand, which: Which, area: u32) -> Section
+    requires way { IsWay dx dy }
+    ensures dir_x { result.dir.dx ≡ dx }
+    ensures dir_y { result.dir.dy ≡ dy }
+{
+    Section {
+        dir: Dir { dx, dy },
+        hand,
+        which,
+        area: Some(area),
+    }
+}
+
+/// Which sectors are inside an area of a figure.
+fn assert_inside(rt: &impl Abort, fan: &Fan, which: Which, inside: &[bool]) {
+    assert_eq!(rt; fan.sectors(), inside.len());
+    for (i, inside) in inside.iter().enumerate() {
+        assert!(rt; i < fan.sectors());
+        assert_eq!(rt; fan.is_inside(which, i), *inside, "sector {i} of {which:?}");
+    }
+}
+
+/// Along which rays a line of a figure runs.
+fn assert_lines(rt: &impl Abort, fan: &Fan, which: Which, lines: &[bool]) {
+    assert_eq!(rt; fan.rays(), lines.len());
+    for (i, line) in lines.iter().enumerate() {
+        assert!(rt; i < fan.rays());
+        assert_eq!(rt; fan.has_line(which, i), *line, "ray {i} of {which:?}");
+    }
+}
+
+/// Two corners of areas of the first figure side by side, one of the second below them, and a line of each figure. Each section
+/// stands there twice.
+#[test]
+fn sectors_of_two_figures(rt: HostRuntime) -> Result<(), Fail> {
+    let mut sections = SectionList::new(rt.alloc());
+    for _ in 0..2 {
+        sections.push(beside(0, 5, Hand::Right, Which::A, 0))?;
+        sections.push(beside(3, 0, Hand::Left, Which::A, 0))?;
+        sections.push(beside(0, 1, Hand::Left, Which::A, 1))?;
+        sections.push(beside(-2, 0, Hand::Right, Which::A, 1))?;
+        sections.push(beside(7, 0, Hand::Right, Which::B, 0))?;
+        sections.push(beside(-1, 0, Hand::Left, Which::B, 0))?;
+        sections.push(Section {
+            which: Which::A,
+            ..toward(2, 2)
+        })?;
+        sections.push(toward(0, -1))?;
+    }
+    assert!(rt; are_short(&sections));
+    let fan = Fan::gather(rt.alloc(), &sections).ok().ok_or("no memory")?;
+    assert_rays(&rt, &fan, &[(1, 0), (1, 1), (0, 1), (-1, 0), (0, -1)]);
+    assert_inside(&rt, &fan, Which::A, &[true, true, true, false, false]);
+    assert_inside(&rt, &fan, Which::B, &[false, false, false, true, true]);
+    assert_lines(&rt, &fan, Which::A, &[false, true, false, false, false]);
+    assert_lines(&rt, &fan, Which::B, &[false, false, false, false, true]);
+    Ok(())
+}
+
+/// An area round all but one quarter, over the positive x direction.
+#[test]
+fn an_area_over_the_first_ray(rt: HostRuntime) -> Result<(), Fail> {
+    let mut sections = SectionList::new(rt.alloc());
+    sections.push(beside(0, 4, Hand::Right, Which::B, 3))?;
+    sections.push(beside(-4, 0, Hand::Left, Which::B, 3))?;
+    sections.push(toward(9, 0))?;
+    assert!(rt; are_short(&sections));
+    let fan = Fan::gather(rt.alloc(), &sections).ok().ok_or("no memory")?;
+    assert_rays(&rt, &fan, &[(1, 0), (0, 1), (-1, 0)]);
+    assert_inside(&rt, &fan, Which::B, &[true, false, true]);
+    assert_inside(&rt, &fan, Which::A, &[false, false, false]);
+    assert_lines(&rt, &fan, Which::B, &[true, false, false]);
+    Ok(())
+}
+
+/// Twelve narrow areas round a node, of the two figures in turn.
+#[test]
+fn many_areas_round_a_node(rt: HostRuntime) -> Result<(), Fail> {
+    let rays = [
+        (1, 0),
+        (2, 1),
+        (1, 2),
+        (0, 1),
+        (-1, 2),
+        (-2, 1),
+        (-1, 0),
+        (-2, -1),
+        (-1, -2),
+        (0, -1),
+        (1, -2),
+        (2, -1),
+    ];
+    let mut sections = SectionList::new(rt.alloc());
+    for (i, (dx, dy)) in rays.iter().enumerate() {
+        let (which, other) = if i % 2 == 0 {
+            (Which::A, Which::B)
+        } else {
+            (Which::B, Which::A)
+        };
+        let ray = Dir { dx: *dx, dy: *dy };
+        let area = i as u32;
+        sections.push(edge(ray, Hand::Left, which, area))?;
+        sections.push(edge(ray, Hand::Right, other, (area + 11) % 12))?;
+    }
+    assert!(rt; are_short(&sections));
+    let fan = Fan::gather(rt.alloc(), &sections).ok().ok_or("no memory")?;
+    assert_rays(&rt, &fan, &rays);
+    let even = [
+        true, false, true, false, true, false, true, false, true, false, true, false,
+    ];
+    let odd = [
+        false, true, false, true, false, true, false, true, false, true, false, true,
+    ];
+    assert_inside(&rt, &fan, Which::A, &even);
+    assert_inside(&rt, &fan, Which::B, &odd);
+    Ok(())
+}

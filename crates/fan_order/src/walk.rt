@@ -1,4 +1,5 @@
-ghost use Rattle.std.specs.Prelude.{◌≡◌, ◌<◌, ◌≤◌, ◌+◌, ◌*◌, ◌↔◌, ◌⊎◌, ◌∷◌, [], ℕ, length, AllPairs, Any, IfOk, IsOk, IsTrue, slice_index_or, false, true};
+ghost use Rattle.std.specs.Prelude.{◌≡◌, ◌<◌, ◌≤◌, ◌+◌, ◌*◌, ◌↔◌, ◌⊎◌, ◌∷◌, [], ℕ, length, AllPairs, Any, IfOk, IsOk, IsTrue};
+ghost use Rattle.std.specs.Prelude.{slice_index_or, false};
 ghost use Rattle.std.specs.declared.cmp.Ordering.TheVariants.{Less};
 ghost use Rattle.plane_exact.specs.Orders.{compare_angles, IsSameDirection};
 ghost use Rattle.point_set.specs.declared.edge.Hand.TheVariants as hand;
@@ -8,7 +9,7 @@ ghost use Rattle.fan_order.specs.Passes.{IsRound};
 ghost use Rattle.fan_order.specs.Rays.{AreRaysOf};
 ghost use Rattle.fan_order.specs.Sections.{IsLineAlong, IsSectorInside, AreHandsAlike, AreSided};
 
-use crate::pass::{Pass, open_at, passes_of, reach_of};
+use crate::pass::{open_at, passes_of, reach_of};
 use crate::ray::{Ray, place_of};
 use crate::section::Section;
 use im_matrix::Which;

@@ -12,10 +12,17 @@ loop-until-preserved c =
     let place : c.len.result ≡ n = c.len.ensures.value ∙ l.count in
     let far = farthest_next reach n c.loop-until.farthest c.max-farthest.result l.farthest c.max-farthest.ensures in
     let flag : IsTrue (ltb c.len.result c.max-farthest.result) ↔ (n < c.max-farthest.result) =
-    subst (λ (m : ℕ). IsTrue (ltb c.len.result c.max-farthest.result) ↔ (m < c.max-farthest.result)) place (Decides-ltb c.len.result c.max-farthest.result) in
+    subst (λ (m : ℕ). IsTrue (ltb c.len.result c.max-farthest.result) ↔ (m < c.max-farthest.result)) place
+    (Decides-ltb c.len.result c.max-farthest.result) in
     record {
-      count = let e = ap length pushed in let k = l.count in omega (arith, e, k, length-append c.loop-until.opened.items (ltb c.len.result c.max-farthest.result ∷ []));
+      count =
+          let e = ap length pushed in
+          let k = l.count in
+          omega (arith, e, k, length-append c.loop-until.opened.items (ltb c.len.result c.max-farthest.result ∷ []));
       farthest = far;
-      opened = subst (AreOpened reach (n + 1)) (sym pushed) (flags_more reach n c.max-farthest.result c.loop-until.opened.items (ltb c.len.result c.max-farthest.result) l.count l.opened far flag);
+      opened =
+          subst (AreOpened reach (n + 1)) (sym pushed)
+          (flags_more reach n c.max-farthest.result c.loop-until.opened.items (ltb c.len.result c.max-farthest.result) l.count l.opened
+          far flag);
       room = let e = c.push_reserved.ensures.capacity in let k = l.room in omega (arith, e, k);
     }

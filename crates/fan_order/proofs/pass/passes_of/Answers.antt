@@ -9,7 +9,9 @@ pub loop-section-init : goal.loop-section-init
 loop-section-init c =
     let empty : c.reserve.new.self.items ≡ [] = c.reserve.ensures.items ∙ c.new-passes.ensures.items in
     record {
-      passes = subst (λ (ps : List Pass). ArePasses c.args.which (twice c.args.rays.now) [] ps) (sym empty) (passes_of_none c.args.which (twice c.args.rays.now));
+      passes =
+          subst (λ (ps : List Pass). ArePasses c.args.which (twice c.args.rays.now) [] ps) (sym empty)
+          (passes_of_none c.args.which (twice c.args.rays.now));
       few = let e = ap length empty in omega (arith, e);
       room = let e = ap length empty in let k = c.in_ok-reserve.ensures.ok in omega (arith, e, k);
     }
@@ -25,8 +27,8 @@ loop-section-preserved c =
     record {
       passes =
           passes_more c.args.which (twice c.args.rays.now) c.args.sections.now c.loop-section.section-index c.section-item.result
-          c.loop-section.passes.items c.add_passes.new.passes.items c.loop-section-test.true c.section-item.is c.loop-section.invariant.passes
-          adds;
+          c.loop-section.passes.items c.add_passes.new.passes.items c.loop-section-test.true c.section-item.is
+          c.loop-section.invariant.passes adds;
       few =
           let e = ap length adds.new_is in
           let f = adds.few in

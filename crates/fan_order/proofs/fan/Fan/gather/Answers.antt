@@ -1,5 +1,4 @@
 use Rattle.std.proofs.Common.{◌≡◌, List, length, sym, ap, ◌∙◌, subst, arith}
-use Rattle.std.specs.List.{AllZip}
 use Rattle.std.proofs.lemmas.Bool.{false≢true}
 use Rattle.im_matrix.specs.declared.Which.{Which}
 use Rattle.im_matrix.specs.declared.Which.TheVariants.{A, B}
@@ -8,42 +7,48 @@ use Rattle.fan_order.specs.declared.section.Section.{Section}
 use Rattle.fan_order.specs.declared.walk.Walk.{Walk}
 use Rattle.fan_order.specs.Passes.{IsRound}
 use Rattle.fan_order.specs.Rays.{IsRayOf, AreRaysOf}
-use Rattle.fan_order.proofs.Lists.{AreRaysOf-kept, short_kept, as_many}
+use Rattle.fan_order.proofs.Lists.{rays_kept, short_kept, as_many}
 use Rattle.fan_order.proofs.fan.Fan.gather.Goals as goal
+
+-- rays of sections, said of lists that were read from others
+rays_of_read : (given sections : List Section) (seen rays : List Dir) → given ≡ sections → seen ≡ rays → AreRaysOf sections rays
+    → AreRaysOf given seen
+rays_of_read given sections seen rays same also are =
+    subst (λ (ss : List Section). AreRaysOf ss seen) (sym same) (subst (λ (ds : List Dir). AreRaysOf sections ds) (sym also) are)
+
+-- what was found of a figure, said of the fan's own lists
+round_of : (which : Which) (given sections : List Section) (seen rays : List Dir) (walk : Walk) → given ≡ sections → seen ≡ rays
+    → IsRound which given seen walk → IsRound which sections rays walk
+round_of which given sections seen rays walk same also round =
+    subst (λ (ss : List Section). IsRound which ss rays walk) same (subst (λ (ds : List Dir). IsRound which given ds walk) also round)
 
 pub returns-clause-rays : goal.returns-clause-rays
 returns-clause-rays c =
-    AreRaysOf-kept c.args.sections.now c.in_ok-rays.rays.items c.sort_rays.new.rays.items
-    (subst (λ (sections : List Section). AllZip (λ (s : Section) (ray : Dir). IsRayOf s.dir ray) sections c.in_ok-rays.rays.items) c.as_slice.ensures.items c.in_ok-rays.ensures.rays)
-    c.sort_rays.ensures.ascending c.sort_rays.ensures.only c.sort_rays.ensures.whole
+    rays_kept c.args.sections.now c.as_slice.result.now c.in_ok-rays.rays.items c.sort_rays.new.rays.items c.as_slice.ensures.items
+    c.in_ok-rays.ensures.rays c.sort_rays.ensures.ascending c.sort_rays.ensures.only c.sort_rays.ensures.whole
 
 pub round-requires : goal.round-requires
-round-requires c =
-    let rays : AreRaysOf c.args.sections.now c.sort_rays.new.rays.items =
-    AreRaysOf-kept c.args.sections.now c.in_ok-rays.rays.items c.sort_rays.new.rays.items
-    (subst (λ (sections : List Section). AllZip (λ (s : Section) (ray : Dir). IsRayOf s.dir ray) sections c.in_ok-rays.rays.items) c.as_slice.ensures.items c.in_ok-rays.ensures.rays)
-    c.sort_rays.ensures.ascending c.sort_rays.ensures.only c.sort_rays.ensures.whole in
-    record {
-      rays =
-          subst (λ (sections : List Section). AreRaysOf sections c.as_slice-3.result.now) (sym c.as_slice-2.ensures.items)
-          (subst (λ (ds : List Dir). AreRaysOf c.args.sections.now ds) (sym c.as_slice-3.ensures) rays);
-    }
+round-requires c = record {
+  rays =
+      rays_of_read c.as_slice-2.result.now c.args.sections.now c.as_slice-3.result.now c.sort_rays.new.rays.items
+      c.as_slice-2.ensures.items c.as_slice-3.ensures
+      (rays_kept c.args.sections.now c.as_slice.result.now c.in_ok-rays.rays.items c.sort_rays.new.rays.items c.as_slice.ensures.items
+      c.in_ok-rays.ensures.rays c.sort_rays.ensures.ascending c.sort_rays.ensures.only c.sort_rays.ensures.whole);
+}
 
 pub round-requires-2 : goal.round-requires-2
-round-requires-2 c =
-    let rays : AreRaysOf c.args.sections.now c.sort_rays.new.rays.items =
-    AreRaysOf-kept c.args.sections.now c.in_ok-rays.rays.items c.sort_rays.new.rays.items
-    (subst (λ (sections : List Section). AllZip (λ (s : Section) (ray : Dir). IsRayOf s.dir ray) sections c.in_ok-rays.rays.items) c.as_slice.ensures.items c.in_ok-rays.ensures.rays)
-    c.sort_rays.ensures.ascending c.sort_rays.ensures.only c.sort_rays.ensures.whole in
-    record {
-      rays =
-          subst (λ (sections : List Section). AreRaysOf sections c.as_slice-5.result.now) (sym c.as_slice-4.ensures.items)
-          (subst (λ (ds : List Dir). AreRaysOf c.args.sections.now ds) (sym c.as_slice-5.ensures) rays);
-    }
+round-requires-2 c = record {
+  rays =
+      rays_of_read c.as_slice-4.result.now c.args.sections.now c.as_slice-5.result.now c.sort_rays.new.rays.items
+      c.as_slice-4.ensures.items c.as_slice-5.ensures
+      (rays_kept c.args.sections.now c.as_slice.result.now c.in_ok-rays.rays.items c.sort_rays.new.rays.items c.as_slice.ensures.items
+      c.in_ok-rays.ensures.rays c.sort_rays.ensures.ascending c.sort_rays.ensures.only c.sort_rays.ensures.whole);
+}
 
 pub returns-in_err-a-clause-room : goal.returns-in_err-a-clause-room
 returns-in_err-a-clause-room c = λ few.
-    let many = as_many (λ (s : Section) (ray : Dir). IsRayOf s.dir ray) c.as_slice.result.now c.in_ok-rays.rays.items c.in_ok-rays.ensures.rays in
+    let many =
+    as_many (λ (s : Section) (ray : Dir). IsRayOf s.dir ray) c.as_slice.result.now c.in_ok-rays.rays.items c.in_ok-rays.ensures.rays in
     let given = ap length c.as_slice.ensures.items in
     let seen = ap length c.as_slice-2.ensures.items in
     let kept = c.sort_rays.ensures.few in
@@ -52,36 +57,30 @@ returns-in_err-a-clause-room c = λ few.
 
 pub returns-in_err-b-clause-room : goal.returns-in_err-b-clause-room
 returns-in_err-b-clause-room c = λ few.
-    let many = as_many (λ (s : Section) (ray : Dir). IsRayOf s.dir ray) c.as_slice.result.now c.in_ok-rays.rays.items c.in_ok-rays.ensures.rays in
+    let many =
+    as_many (λ (s : Section) (ray : Dir). IsRayOf s.dir ray) c.as_slice.result.now c.in_ok-rays.rays.items c.in_ok-rays.ensures.rays in
     let given = ap length c.as_slice.ensures.items in
     let seen = ap length c.as_slice-4.ensures.items in
     let kept = c.sort_rays.ensures.few in
     let rays = ap length c.as_slice-5.ensures in
     absurd (false≢true (c.in_err-b.ensures.room (omega (arith, few, seen)) (omega (arith, few, many, given, kept, rays))))
 
--- what was found of a figure, said of the fan's own lists
-round_of : (which : Which) (given sections : List Section) (seen rays : List Dir) (walk : Walk) → given ≡ sections → seen ≡ rays
-    → IsRound which given seen walk → IsRound which sections rays walk
-round_of which given sections seen rays walk same also round =
-    subst (λ (ss : List Section). IsRound which ss rays walk) same (subst (λ (ds : List Dir). IsRound which given ds walk) also round)
-
 pub invariant_of-result : goal.invariant_of-result
 invariant_of-result c =
-    let rays : AreRaysOf c.args.sections.now c.sort_rays.new.rays.items =
-    AreRaysOf-kept c.args.sections.now c.in_ok-rays.rays.items c.sort_rays.new.rays.items
-    (subst (λ (sections : List Section). AllZip (λ (s : Section) (ray : Dir). IsRayOf s.dir ray) sections c.in_ok-rays.rays.items) c.as_slice.ensures.items c.in_ok-rays.ensures.rays)
-    c.sort_rays.ensures.ascending c.sort_rays.ensures.only c.sort_rays.ensures.whole in
+    let rays = c.sort_rays.new.rays.items in
     let kept = c.in_ok-sections.sections.items in
     let same : kept ≡ c.args.sections.now = c.in_ok-sections.ensures.ok ∙ c.as_slice-6.ensures.items in
     record {
       is_fan = record {
-        rays = subst (λ (sections : List Section). AreRaysOf sections c.sort_rays.new.rays.items) (sym same) rays;
-        short = short_kept c.in_ok-rays.rays.items c.sort_rays.new.rays.items c.in_ok-rays.ensures.short c.sort_rays.ensures.only;
+        rays =
+            rays_kept kept c.as_slice.result.now c.in_ok-rays.rays.items rays (c.as_slice.ensures.items ∙ sym same)
+            c.in_ok-rays.ensures.rays c.sort_rays.ensures.ascending c.sort_rays.ensures.only c.sort_rays.ensures.whole;
+        short = short_kept c.in_ok-rays.rays.items rays c.in_ok-rays.ensures.short c.sort_rays.ensures.only;
       };
       of_a =
-          round_of A c.as_slice-2.result.now kept c.as_slice-3.result.now c.sort_rays.new.rays.items c.in_ok-a.a
-          (c.as_slice-2.ensures.items ∙ sym same) c.as_slice-3.ensures c.in_ok-a.ensures.round;
+          round_of A c.as_slice-2.result.now kept c.as_slice-3.result.now rays c.in_ok-a.a (c.as_slice-2.ensures.items ∙ sym same)
+          c.as_slice-3.ensures c.in_ok-a.ensures.round;
       of_b =
-          round_of B c.as_slice-4.result.now kept c.as_slice-5.result.now c.sort_rays.new.rays.items c.in_ok-b.b
-          (c.as_slice-4.ensures.items ∙ sym same) c.as_slice-5.ensures c.in_ok-b.ensures.round;
+          round_of B c.as_slice-4.result.now kept c.as_slice-5.result.now rays c.in_ok-b.b (c.as_slice-4.ensures.items ∙ sym same)
+          c.as_slice-5.ensures c.in_ok-b.ensures.round;
     }
