@@ -3,6 +3,7 @@ mod Filled
 mod Sets
 mod Positions
 mod Crossings
+mod Passes
 mod Together
 mod EdgeSections
 mod FigureEdges
