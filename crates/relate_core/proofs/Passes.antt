@@ -8,15 +8,17 @@ use Rattle.plane_exact.specs.Places.{point_of}
 use Rattle.plane_exact.specs.declared.node.Node.{Node}
 use Rattle.plane_exact.specs.declared.point.Pt.{Pt}
 use Rattle.plane_exact.specs.declared.point.Seg.{Seg}
+use Rattle.point_set.specs.declared.figure.Figure.{Figure}
+use Rattle.point_set.specs.Nodes.{segs_of}
 use Rattle.point_set.specs.Validity.{IsAtPlace}
 use Rattle.figure_laws.proofs.Lists.Places.{some_same}
 use Rattle.node_table.specs.Tables.{with_sections}
 use Rattle.node_table.specs.declared.entry.Entry.{Entry}
-use Rattle.relate_core.specs.NodeSets.{AddsNodes, IsAtPosition, IsAtFirst, IsAtEitherEnd}
+use Rattle.relate_core.specs.NodeSets.{AddsNodes, CrossesOne, IsAtPosition, IsAtFirst, IsAtEitherEnd}
 use Rattle.relate_core.proofs.Sets.{IsOfBefore, adds_none, adds_position, adds_both, adds_same, adds_next}
 
 -- what is read from a list within its length is the item there
-pub item_at : {X : Type 0} (items xs : List X) (k : ℕ) (d : X) → items ≡ xs → k < length items → IsAtPlace xs k (get_or items k d)
+item_at : {X : Type 0} (items xs : List X) (k : ℕ) (d : X) → items ≡ xs → k < length items → IsAtPlace xs k (get_or items k d)
 item_at {X} items xs k d same below =
     subst (λ (ys : List X). IsAtPlace ys k (get_or items k d)) same (slice_get-get_or items k d below)
 
@@ -52,3 +54,12 @@ ends_next items edges k d same below old mid then new n m at_a at_b first second
     adds_next IsAtEitherEnd edges k (get_or items k d) old mid new (item_at items edges k d same below) h
     (adds_both mid then new (adds_position mid then n (get_or items k d).a at_a first)
     (adds_position then new m (get_or items k d).b at_b second))
+
+-- the crossings of an edge with those of a figure
+pub crossings_next : (f other : Figure) → other ≡ f → (items edges : List Seg) (k : ℕ) (d : Seg) → items ≡ edges → k < length items
+    → (old mid new : List Entry) → AddsNodes (CrossesOne (get_or items k d) (segs_of other)) mid new
+    → AddsNodes (IsOfBefore (λ e. CrossesOne e (segs_of f)) edges k) old mid
+    → AddsNodes (IsOfBefore (λ e. CrossesOne e (segs_of f)) edges (k + 1)) old new
+crossings_next f other alike items edges k d same below old mid new more h =
+    adds_next (λ e. CrossesOne e (segs_of f)) edges k (get_or items k d) old mid new (item_at items edges k d same below) h
+    (subst (λ (z : Figure). AddsNodes (CrossesOne (get_or items k d) (segs_of z)) mid new) alike more)

@@ -61,8 +61,7 @@ positions_added f valid edges are old one two new h k l =
         (λ place q is at. inl (inl (record { place = place; item = q; item_is = is; is_of = at })))
         (λ place line is q first at. inl (inr (record { place = place; item = line; item_is = is; is_of = (q, first, at) })))
         (λ place e is.
-        let p = are.whole place e is in
-        (
+        let p = are.whole place e is in (
           (λ at. inr (record { place = p.0; item = e; item_is = p.1; is_of = inl at })),
           (λ at. inr (record { place = p.0; item = e; item_is = p.1; is_of = inr at })),
         ))

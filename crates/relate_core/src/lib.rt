@@ -3,7 +3,6 @@
 
 mod edges;
 mod filling;
+pub mod laws;
 mod node_sections;
 mod nodes;
-
-pub mod laws;

@@ -1,9 +1,9 @@
-use Rattle.std.proofs.Common.{◌≡◌, List, ℕ, ◌∙◌, ap, sym, length, subst, arith}
+use Rattle.std.proofs.Common.{◌≡◌, List, ℕ, ◌∙◌, refl, sym, subst, arith}
 use Rattle.point_set.specs.declared.figure.Figure.{Figure}
 use Rattle.point_set.specs.Edges.{edges_of_figure, ArePlacesIn}
 use Rattle.point_set.specs.Shape.{IsWellShaped}
 use Rattle.relate_core.specs.NodeSets.{AreEdgesOf}
-use Rattle.relate_core.proofs.FigureEdges.{IsEverywhere, place_within, edge_more, all_edges}
+use Rattle.relate_core.proofs.FigureEdges.{everywhere, place_within, edge_more, all_edges}
 use Rattle.relate_core.proofs.edges.edges_of.Goals as goal
 
 pub edge_at-requires : goal.edge_at-requires
@@ -26,5 +26,5 @@ returns-clause-edges g c =
     let near = subst (λ (xs : List ℕ). ArePlacesIn _ (edges_of_figure f) xs) (sym c.as_slice-place-items.ensures.items) c.in_ok-edges_in.ensures.places in
     subst (λ (z : Figure). AreEdgesOf z c.loop-place.edges) same
     (all_edges f _ places
-    (subst (λ (z : Figure). IsWellShaped z) (c.valid.ensures.figure ∙ sym same) c.figure-well_shaped.ensures.shaped) ? near
+    (subst (λ (z : Figure). IsWellShaped z) (c.valid.ensures.figure ∙ sym same) c.figure-well_shaped.ensures.shaped) (everywhere _ refl refl refl refl) near
     c.loop-place.place-index (omega (arith, c.loop-place-test.false)) c.loop-place.edges c.loop-place.invariant)

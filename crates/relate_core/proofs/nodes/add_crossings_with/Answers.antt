@@ -43,7 +43,7 @@ loop-place-preserved g c =
       | in_default w ↦
           subst (λ (t : List Entry). AddsNodes (IsOfBefore Set places (k + 1)) old t) (sym w.nodes-is)
           (adds_next Set places k place old mid mid at c.loop-place.invariant
-          (no_crossing e edges place other is c.meet.result mid c.meet.ensures.exact ?))
+          (no_crossing e edges place other is c.meet.result mid c.meet.ensures.exact w.in_default.not-At))
     ]
 
 pub returns-clause-nodes : goal.returns-clause-nodes
