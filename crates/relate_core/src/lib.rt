@@ -5,9 +5,9 @@
 mod edges;
 mod evaluation;
 mod filling;
+pub mod laws;
 mod node_sections;
 mod nodes;
 mod samples;
 
-pub mod laws;
 pub use evaluation::evaluate;
