@@ -32,8 +32,8 @@ pub only_swap : {e f : Seg} {v : Point} → IsOnlyCommonPoint e f v → IsOnlyCo
 only_swap h = record { on_e = h.on_f; on_f = h.on_e; only = λ p on_f on_e. h.only p on_e on_f }
 
 -- it is the node that the test answers
-only_at : {e f : Seg} {n : Node} {v : Point} → IsMeet e f (At n) → IsSamePoint v (point_at n) → IsOnlyCommonPoint e f v
-only_at {e} {f} {n} {v} m s = record {
+only_at : {e f : Seg} {v : Point} (n : Node) → IsMeet e f (At n) → IsSamePoint v (point_at n) → IsOnlyCommonPoint e f v
+only_at {e} {f} {v} n m s = record {
   on_e = segment_same (same_refl (point_of e.a)) (same_refl (point_of e.b)) (same_sym s) m.common.first;
   on_f = segment_same (same_refl (point_of f.a)) (same_refl (point_of f.b)) (same_sym s) m.common.second;
   only = λ p on_e on_f. same_trans (m.only p (record { first = on_e; second = on_f })) (same_sym s);
@@ -62,7 +62,7 @@ module _ (e : Seg) (edges : List OwnedEdge) (place : ℕ) (other : OwnedEdge) (i
   pub crossing_added : (n : Node) (old new : List Entry) → IsMeet e other.seg (At n) → new ≡ with_sections old n []
       → AddsNodes (CrossesAt e edges place) old new
   crossing_added n old new m added =
-      adds_same (λ v s. record { other = other; other_is = is; crosses = only_at m s })
+      adds_same (λ v s. record { other = other; other_is = is; crosses = only_at n m s })
       (λ v c.
       let same : c.other ≡ other = some_same (sym c.other_is ∙ is) in
       let here = subst (λ (z : OwnedEdge). IsOnlyCommonPoint e z.seg v) same c.crosses in

@@ -75,14 +75,13 @@ module _ (which : Which) (f : Figure) (v : Point) where
       → AreOfEdge which f v edge last → AreOfEdges which f v (edges ++ edge ∷ []) (more ++ last)
   one_edge [] edge more last h k =
       (last, [], ap (λ (xs : List Section). xs ++ last) h ∙ sym (append-nil last), k, refl)
-  one_edge (x ∷ edges) edge more last h k =
-      (
-        h.0,
-        h.1 ++ last,
-        ap (λ (xs : List Section). xs ++ last) h.2 ∙ append_assoc h.0 h.1 last,
-        h.3,
-        one_edge edges edge h.1 last h.4 k,
-      )
+  one_edge (x ∷ edges) edge more last h k = (
+    h.0,
+    h.1 ++ last,
+    ap (λ (xs : List Section). xs ++ last) h.2 ∙ append_assoc h.0 h.1 last,
+    h.3,
+    one_edge edges edge h.1 last h.4 k,
+  )
 
   -- the first edges and one more
   first_edges : (edges : List OwnedEdge) (k : ℕ) (edge : OwnedEdge) → IsAtPlace edges k edge → (more last : List Section)

@@ -5,6 +5,7 @@ use Rattle.std.specs.Option.{option_map}
 use Rattle.std.specs.List.{All}
 use Rattle.std.specs.Int.{int_max, int_min}
 use Rattle.std.proofs.lemmas.Bool.{cases_lt}
+use Rattle.std.proofs.lemmas.Int.{ints}
 use Rattle.std.proofs.lemmas.List.Elements.{All-nil, All-push, at_from_Contains}
 use Rattle.std.proofs.lemmas.Option.{slice_get_within, slice_get-map}
 use Rattle.whole_algebra.proofs.Signs.{≤ℤ_trans}
@@ -108,6 +109,17 @@ pub record IsEverywhere (w : Window) : Type 0 where
   pub bottom : w.low_y ≤ℤ neg_ℤ (pos limit)
   pub top : pos limit ≤ℤ w.high_y
 
+-- as the box of all coordinates within the limit does
+pub everywhere : (w : Window) → w.low_x ≡ neg_ℤ (pos limit) → w.high_x ≡ pos limit → w.low_y ≡ neg_ℤ (pos limit) → w.high_y ≡ pos limit
+    → IsEverywhere w
+everywhere w l r b t = record {
+  left = omega (arith, ints, l);
+  right = omega (arith, ints, r);
+  bottom = omega (arith, ints, b);
+  top = omega (arith, ints, t);
+}
+
+-- a position within the limit is in it
 holds_position : (w : Window) → IsEverywhere w → (p : Pt) → IsInLimit p → IsInWindow w (point_of p)
 unfolding one
 holds_position w h p l = record {
@@ -174,7 +186,7 @@ all_edges f w places shaped everywhere near k past edges h = record {
     go place e is t =
         let ends = two_ends_at f place t.edge shaped t.edge_is in
         let p = near_place f w places near place t.edge t.edge_is (point_of t.edge.seg.a)
-            (start_on_segment (point_of t.edge.seg.a) (point_of t.edge.seg.b))
-            (holds_position w everywhere t.edge.seg.a ends.first) in
+        (start_on_segment (point_of t.edge.seg.a) (point_of t.edge.seg.b))
+        (holds_position w everywhere t.edge.seg.a ends.first) in
         let below = p.below in
         h.whole p.index (omega (arith, below, past)) e (subst (λ (n : ℕ). IsAtPlace (segs_of f) n e) (sym (p.reads 0)) is)

@@ -5,6 +5,7 @@ mod EdgeSections
 mod Entries
 mod FigureEdges
 mod Filled
+mod Passes
 mod Positions
 mod Sets
 mod Taking

@@ -1,17 +1,19 @@
 -- Sets of points that are put into a table one after the other, item by item.
-use Rattle.std.proofs.Common.{◌≡◌, ◌⊎◌, inl, inr, ℕ, ◌+◌, ◌<◌, ◌≤◌, List, length, ap, refl, sym, ◌∙◌, subst, arith}
+use Rattle.std.proofs.Common.{◌≡◌, ◌⊎◌, inl, inr, ℕ, ◌+◌, ◌<◌, ◌≤◌, List, [], length, ap, refl, sym, ◌∙◌, subst, arith}
 use Rattle.std.proofs.lemmas.Bool.{cases_lt}
 use Rattle.std.proofs.lemmas.Option.{slice_get_within}
 use Rattle.plane_laws.specs.Plane.{Point, IsSamePoint}
 use Rattle.plane_exact.specs.NodePoints.{point_at}
+use Rattle.plane_exact.specs.Places.{point_of}
 use Rattle.plane_exact.specs.declared.node.Node.{Node}
+use Rattle.plane_exact.specs.declared.point.Pt.{Pt}
 use Rattle.point_set.specs.Validity.{IsAtPlace}
 use Rattle.figure_laws.proofs.Lists.Places.{some_same}
 use Rattle.fan_order.specs.declared.section.Section.{Section}
 use Rattle.node_table.specs.Tables.{with_sections}
 use Rattle.node_table.specs.declared.entry.Entry.{Entry}
 use Rattle.relate_core.specs.Tables.{IsListed}
-use Rattle.relate_core.specs.NodeSets.{AddsNodes, IsOfSome}
+use Rattle.relate_core.specs.NodeSets.{AddsNodes, IsAtPosition, IsOfSome}
 use Rattle.relate_core.proofs.Entries.{listed_kept, listed_added, listed_only}
 
 -- ---- one step and the next
@@ -27,6 +29,12 @@ adds_node old new n s e = subst (λ (t : List Entry). AddsNodes (λ v. IsSamePoi
   whole = λ v h. listed_added n s v old h;
   only = λ v h. listed_only n s v old h;
 })
+
+-- the points at a position
+pub adds_position : (old new : List Entry) (n : Node) (p : Pt) → point_at n ≡ point_of p → new ≡ with_sections old n []
+    → AddsNodes (IsAtPosition p) old new
+adds_position old new n p same e =
+    subst (λ (z : Point). AddsNodes (λ v. IsSamePoint v z) old new) same (adds_node old new n [] e)
 
 -- one set after the other
 pub adds_both : {First Second : Point → Type 0} (old mid new : List Entry) → AddsNodes First old mid → AddsNodes Second mid new

@@ -35,6 +35,7 @@ pub(crate) fn edges_of<T: Target>(alloc: Global, t: &mut T) -> Result<SegList, N
     ensures figure { T.figure t.new ≡ T.figure t.old }
     ensures looks { T.looks t.new ≡ T.looks t.old }
 {
+    let _well_shaped = t.valid().figure();
     let mut places = PlaceList::new(alloc);
     t.edges_in(EVERYWHERE, &mut places)?;
     let mut edges = SegList::new(alloc);

@@ -40,11 +40,7 @@ pub(crate) fn nodes_of<A: Target, B: Target>(
 
 /// Puts all positions of a figure in: its points, the first position of each line, and the ends of its edges. Each position of a way
 /// is its first one or an end of one of its edges, and rings have edges.
-fn add_positions(
-    nodes: &mut NodeTable,
-    figure: &Figure,
-    edges: &SegList,
-) -> Result<(), NoMemory>
+fn add_positions(nodes: &mut NodeTable, figure: &Figure, edges: &SegList) -> Result<(), NoMemory>
     requires shaped { IsWellShaped figure.now }
     requires valid { IsValid figure.now }
     requires edges { AreEdgesOf figure.now edges.now }

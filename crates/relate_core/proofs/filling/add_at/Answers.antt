@@ -20,8 +20,8 @@ returns-clause-added g c =
     let empty = c.new-sections.ensures.empty in
     let first = subst (λ (xs : List Section). AddsSectionsAt A a (point_at n) xs mid) empty c.in_ok-sections_at.ensures.sections in
     let short = c.in_ok-sections_at-2.ensures.short
-        (c.in_ok-sections_at.ensures.short
-        (subst (λ (xs : List Section). All (λ s. IsShort s.dir) xs) (sym empty) (All-nil (λ (s : Section). IsShort s.dir)))) in
+    (c.in_ok-sections_at.ensures.short
+    (subst (λ (xs : List Section). All (λ s. IsShort s.dir) xs) (sym empty) (All-nil (λ (s : Section). IsShort s.dir)))) in
     let its = both_sections a b n mid c.sections_at-2.new.out first c.in_ok-sections_at-2.ensures.sections short in
     on_ok_weaker c.add_all.result
     (λ added. record {
