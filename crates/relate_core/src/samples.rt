@@ -108,7 +108,11 @@ fn take_in_sectors(progress: &mut Progress, fan: &Fan, at_a: DimLoc, at_b: DimLo
         → HasTakenIn (IsSampleOf dim.Two a b rule v) progress.old progress.new }
 {
     for i in 0..fan.sectors() {
-        take_in_cell(progress, cell_of(label_sector(fan, at_a, at_b, i)), Dim::Two);
+        take_in_cell(
+            progress,
+            cell_of(label_sector(fan, at_a, at_b, i)),
+            Dim::Two,
+        );
     }
 }
 
