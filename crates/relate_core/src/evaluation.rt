@@ -2,9 +2,6 @@ ghost use Rattle.std.specs.Prelude.{◌≡◌, IfOk};
 ghost use Rattle.topo_pred.specs.declared.Query.TheVariants.{Relate};
 ghost use Rattle.relate_core.specs.Answers.{IsValueOnSamples, IsSampleMatrixItself, IsAnswerTo};
 
-#[cfg(test)]
-mod tests;
-
 use crate::filling::fill;
 use crate::samples::{are_valid, take_in_all};
 use plane_exact::NoMemory;
