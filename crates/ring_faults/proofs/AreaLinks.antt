@@ -19,15 +19,17 @@ use Rattle.figure_laws.proofs.Lists.Least.{SomeItem}
 use Rattle.valid_laws.proofs.Entering.Walk.{some_place}
 use Rattle.ring_faults.specs.declared.link.Link.{Link}
 use Rattle.ring_faults.specs.declared.part.PartEdge.{PartEdge}
-use Rattle.ring_faults.specs.Links.{IsLinked, AreLinksOf}
+use Rattle.ring_faults.specs.Links.{IsLinked}
 use Rattle.ring_faults.specs.Parts.{IsOnPart, part_edge, edges_of_parts}
 use Rattle.ring_faults.specs.Touches.{AreLinkedAt, AreLinksOfParts}
 use Rattle.ring_faults.proofs.PartEdges.{contained_at, contains_at, comes_from_part, stands_in_row}
 use Rattle.ring_faults.proofs.PartsShare.{ring_at, edges_at}
+use Rattle.ring_faults.proofs.Forests.{AreLinksOf}
 
 -- ---- a point on a ring
 -- what is on an edge of a ring's part is on the ring
-pub on_ring : (area : Area) (part : ℕ) (p : Point) → IsOnPart (edges_of_parts 0 (map edges_of (rings_of area))) part p → IsOnRingAt area part p
+pub on_ring : (area : Area) (part : ℕ) (p : Point) → IsOnPart (edges_of_parts 0 (map edges_of (rings_of area))) part p
+    → IsOnRingAt area part p
 on_ring area part p at =
     let edges = edges_of_parts 0 (map edges_of (rings_of area)) in
     let from = comes_from_part (map edges_of (rings_of area)) 0 at.there.0 at.edge (contained_at edges at.edge at.there) in
@@ -48,7 +50,8 @@ record HasRingEdge (edges : List PartEdge) (part : ℕ) (p : Point) : Type 0 whe
   on : IsOnEdge seg p
 
 -- and back
-ring_edge : (area : Area) (part : ℕ) (p : Point) → IsOnRingAt area part p → HasRingEdge (edges_of_parts 0 (map edges_of (rings_of area))) part p
+ring_edge : (area : Area) (part : ℕ) (p : Point) → IsOnRingAt area part p
+    → HasRingEdge (edges_of_parts 0 (map edges_of (rings_of area))) part p
 ring_edge area part p at =
     let held = some_place (edges_of at.ring) p at.on in
     let edges = edges_of_parts 0 (map edges_of (rings_of area)) in
@@ -90,13 +93,18 @@ area_links area links h = record {
         → (n : Node) × IsSamePoint (point_at n) p × IsLinked links n i
     whole i j other p a b = by (ring_edge area i p a) (ring_edge area j p b) (cases_lt i j)
       where
-        by : HasRingEdge (edges_of_parts 0 (map edges_of (rings_of area))) i p → HasRingEdge (edges_of_parts 0 (map edges_of (rings_of area))) j p
+        by : HasRingEdge (edges_of_parts 0 (map edges_of (rings_of area))) i p
+            → HasRingEdge (edges_of_parts 0 (map edges_of (rings_of area))) j p
             → (i < j) ⊎ (j ≤ i) → (n : Node) × IsSamePoint (point_at n) p × IsLinked links n i
         by one two (inl below) =
-            let l : AreLinkedAt links p j i = h.whole (part_edge j two.seg) (part_edge i one.seg) two.there one.there below p (record { first = two.on; second = one.on }) in
+            let l : AreLinkedAt links p j i =
+            h.whole (part_edge j two.seg) (part_edge i one.seg) two.there one.there below p
+            (record { first = two.on; second = one.on }) in
             (l.node, l.at, l.second)
         by one two (inr beyond) =
-            let l : AreLinkedAt links p i j = h.whole (part_edge i one.seg) (part_edge j two.seg) one.there two.there (omega arith) p (record { first = one.on; second = two.on }) in
+            let l : AreLinkedAt links p i j =
+            h.whole (part_edge i one.seg) (part_edge j two.seg) one.there two.there (omega arith) p
+            (record { first = one.on; second = two.on }) in
             (l.node, l.at, l.first)
 
 -- the same links in another order

@@ -20,7 +20,8 @@ abbrev pub HasNoClashBefore : Clash → List PartEdge → ℕ → List ℕ → �
 HasNoClashBefore clash edges i places bound = (k : ℕ) → k < bound → ¬ ClashAt clash edges i (get_or places k 0)
 
 -- one place more
-pub no_clash_more : (clash : Clash) (edges : List PartEdge) (i : ℕ) (places : List ℕ) (bound : ℕ) → HasNoClashBefore clash edges i places bound
+pub no_clash_more : (clash : Clash) (edges : List PartEdge) (i : ℕ) (places : List ℕ) (bound : ℕ)
+    → HasNoClashBefore clash edges i places bound
     → ¬ ClashAt clash edges i (get_or places bound 0) → HasNoClashBefore clash edges i places (bound + 1)
 no_clash_more clash edges i places bound before this k below = by (cases_lt k bound)
   where
@@ -41,7 +42,8 @@ no_clash_there clash edges i places bound past before h =
     let there = h.there in
     let k = there.0 in
     let below : k < length places = there.1 in
-    let same : get_or places k 0 ≡ h.place = sym (get_or_from_slice_get places k (get_or places k 0) h.place (slice_get-get_or places k 0 below)) ∙ there.2 in
+    let same : get_or places k 0 ≡ h.place =
+    sym (get_or_from_slice_get places k (get_or places k 0) h.place (slice_get-get_or places k 0 below)) ∙ there.2 in
     before k (omega arith) (subst (ClashAt clash edges i) (sym same) h.clash_at)
 
 -- ---- along all edges

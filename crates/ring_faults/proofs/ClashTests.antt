@@ -21,10 +21,12 @@ module _ (edges : List PartEdge) (i j : ℕ) (e f : PartEdge) (e_is : IsAtPlace 
   )
 
   -- they clash where they share a segment, and i is of the earlier part
-  pub sharing_at : clash ≡ Sharing → e.part < f.part → (b : Bool) → (IsTrue b ↔ ShareSegment e.seg f.seg) → IsTrue b ↔ ClashAt clash edges i j
+  pub sharing_at : clash ≡ Sharing → e.part < f.part → (b : Bool) → (IsTrue b ↔ ShareSegment e.seg f.seg)
+      → IsTrue b ↔ ClashAt clash edges i j
   sharing_at kind earlier b h = subst (λ (k : Clash). IsTrue b ↔ ClashAt k edges i j) (sym kind) (
     λ t. record { e = e; f = f; e_is = e_is; f_is = f_is; earlier = earlier; share = h.0 t },
-    λ c. h.1 (subst₂ (λ (x y : PartEdge). ShareSegment x.seg y.seg) (some_same (sym c.e_is ∙ e_is)) (some_same (sym c.f_is ∙ f_is)) c.share),
+    λ c. h.1 (subst₂ (λ (x y : PartEdge). ShareSegment x.seg y.seg) (some_same (sym c.e_is ∙ e_is)) (some_same (sym c.f_is ∙ f_is))
+        c.share),
   )
 
   -- they don't where i isn't of the earlier part

@@ -1,5 +1,5 @@
 -- The cycles of an area's links are the cycles of its touching rings.
-use Rattle.std.proofs.Common.{◌≡◌, ◌≢◌, ℕ, List, [], ◌∷◌, refl, sym, ◌∙◌, subst}
+use Rattle.std.proofs.Common.{◌≡◌, ◌≢◌, ◌↔◌, ℕ, List, [], ◌∷◌, refl, sym, ◌∙◌, subst}
 use Rattle.std.specs.List.{All}
 use Rattle.std.proofs.lemmas.List.Elements.{All-nil, All-cons, All-head, All-tail, All-contains}
 use Rattle.plane_exact.specs.NodePoints.{point_at}
@@ -10,8 +10,9 @@ use Rattle.plane_laws.proofs.Points.Same.{same_sym, same_trans}
 use Rattle.point_set.specs.declared.figure.Area.{Area}
 use Rattle.point_set.specs.Validity.{IsOnRingAt, Touch, IsTouchChain, AreApart, HasTouchCycle}
 use Rattle.ring_faults.specs.declared.link.Link.{Link}
-use Rattle.ring_faults.specs.Links.{IsLinked, AreLinksOf, Step, IsApartFrom, AreStepsApart, IsStepChain, HasCycle, ClaimCycle}
+use Rattle.ring_faults.specs.Links.{IsLinked, Step, IsApartFrom, AreStepsApart, IsStepChain, HasCycle}
 use Rattle.ring_faults.proofs.NodesApart.{node_point}
+use Rattle.ring_faults.proofs.Forests.{AreLinksOf}
 
 -- ---- from links to touches
 abbrev touch_of : Step → Touch
@@ -151,5 +152,7 @@ module _ (area : Area) (links : List Link) (of : AreLinksOf area links) where
         chain = (l.first, subst (λ z. IsLinked links l.node z) (sym w.first.same_ring) l.second, w.chain);
       }
 
-pub cycle : ClaimCycle
+-- the rings of an area touch in a cycle exactly where its links have one
+pub cycle :
+    (area : Area) (links : List Link) → AreLinksOf area links → HasTouchCycle area ↔ HasCycle links
 cycle area links of = (steps area links of, touches area links of)

@@ -19,7 +19,8 @@ among_two first others one other h all =
     record { one = one; other = other; two_at_most = All-cons (λ p. (p ≡ one) ⊎ (p ≡ other)) first others h all }
 
 -- all positions are equal
-pub few_of_one : (ring : List Pt) (first : Pt) (others : List Pt) → ring ≡ first ∷ others → All (λ p. p ≡ first) others → HasTooFewPoints ring
+pub few_of_one : (ring : List Pt) (first : Pt) (others : List Pt) → ring ≡ first ∷ others → All (λ p. p ≡ first) others
+    → HasTooFewPoints ring
 few_of_one ring first others is all =
     subst HasTooFewPoints (sym is)
     (among_two first others first first (inl refl)
@@ -35,7 +36,8 @@ swapped one other a b p apart (inr x) (inl y) (inr z) = inl (z ∙ sym x)
 swapped one other a b p apart (inr x) (inr y) z = absurd (apart (x ∙ sym y))
 
 -- two positions differ
-pub few_of_two : (ring : List Pt) (first : Pt) (others : List Pt) (second : Pt) → ring ≡ first ∷ others → Contains others second → second ≢ first
+pub few_of_two : (ring : List Pt) (first : Pt) (others : List Pt) (second : Pt) → ring ≡ first ∷ others → Contains others second
+    → second ≢ first
     → All (λ p. (p ≡ first) ⊎ (p ≡ second)) others ↔ HasTooFewPoints ring
 few_of_two ring first others second is there apart = (
   λ all. subst HasTooFewPoints (sym is) (among_two first others first second (inl refl) all),
@@ -48,5 +50,6 @@ few_of_two ring first others second is there apart = (
         let head = All-head IsOne first others few.two_at_most in
         let tail = All-tail IsOne first others few.two_at_most in
         All-weaker IsOne (λ p. (p ≡ first) ⊎ (p ≡ second))
-        (λ p h. swapped few.one few.other first second p (λ same. apart (sym same)) head (All-contains IsOne others second tail there) h) others
+        (λ p h. swapped few.one few.other first second p (λ same. apart (sym same)) head (All-contains IsOne others second tail there) h)
+        others
         tail

@@ -4,9 +4,9 @@ use Rattle.std.specs.List.{All}
 use Rattle.std.proofs.lemmas.List.Elements.{All-head, All-tail, Contains-push, Contains-push_cases}
 use Rattle.plane_exact.specs.declared.node.Node.{Node}
 use Rattle.ring_faults.specs.declared.link.Link.{Link}
-use Rattle.ring_faults.specs.Links.{IsLinked, Step, IsApartFrom, AreStepsApart, IsStepChain, HasCycle, IsJoined, IsForest, with_link}
-use Rattle.ring_faults.specs.Links.{ClaimFirstLink}
+use Rattle.ring_faults.specs.Links.{IsLinked, Step, IsApartFrom, AreStepsApart, IsStepChain, HasCycle}
 use Rattle.ring_faults.proofs.Ways.{kept_left, path_more}
+use Rattle.ring_faults.proofs.Forests.{IsForest, IsJoined, with_link}
 
 -- the new link's node and ring
 abbrev pub IsNew : Node → ℕ → Node → ℕ → Type 0
@@ -23,6 +23,7 @@ link_cases links n i m j h = by (Contains-push_cases links (record { node = n; r
     by (inl old) = inl old
     by (inr e) = inr (ap (λ (l : Link). l.node) e, ap (λ (l : Link). l.ring) e)
 
+-- the added link is there
 pub link_new : (links : List Link) (n : Node) (i : ℕ) → IsLinked (with_link links n i) n i
 link_new links n i = Contains-push links (record { node = n; ring = i })
 
@@ -87,6 +88,7 @@ round_chain links j step (next ∷ others) h =
           (subst (λ (z : ℕ). IsRound links z (next ∷ others) j) there to.3),
     )
 
+-- so a cycle of links that goes round by other links is one of those
 pub round_cycle :
     (links more : List Link) (c : HasCycle more) → IsRound links c.start.place (c.start ∷ c.second ∷ c.others) c.start.place
     → HasCycle links
@@ -135,7 +137,10 @@ module _ (links : List Link) (n : Node) (i : ℕ) (fresh : (j : ℕ) → ¬ IsLi
       by (inr new) (inl old) = absurd (fresh_at b new.0 old)
       by (inr new) (inr again) = ap (λ z. slice_get labels z) (sym new.1 ∙ again.1)
 
-pub first_link : ClaimFirstLink
+-- a node without a link takes its first: the labels stay those of a forest
+pub first_link :
+    (links : List Link) (labels : List ℕ) → IsForest links labels → (n : Node) (i : ℕ)
+    → ((j : ℕ) → ¬ IsLinked links n j) → IsForest (with_link links n i) labels
 first_link links labels forest n i fresh = record {
   joined =
       λ a b label h k. joined_more links (with_link links n i) labels label a b (kept_left links ((record { node = n; ring = i }) ∷ []))

@@ -7,11 +7,12 @@ use Rattle.std.proofs.lemmas.Option.{get_or_from_slice_get, slice_get_within}
 use Rattle.plane_exact.specs.declared.node.Node.{Node}
 use Rattle.point_set.specs.Validity.{IsAtPlace}
 use Rattle.ring_faults.specs.declared.link.Link.{Link}
-use Rattle.ring_faults.specs.Links.{compare_links, IsLinked, HasCycle, IsForest, IsRelabelled, with_link}
+use Rattle.ring_faults.specs.Links.{compare_links, IsLinked, HasCycle, IsRelabelled}
 use Rattle.ring_faults.proofs.FirstLinks.{first_link}
 use Rattle.ring_faults.proofs.LinkOrder.{new_there, old_before, fresh_there}
 use Rattle.ring_faults.proofs.NextLinks.{cycle_link, next_link}
 use Rattle.ring_faults.proofs.Ways.{cycle_more}
+use Rattle.ring_faults.proofs.Forests.{IsForest, with_link}
 
 -- ---- no links
 none_linked : (n : Node) (i : ℕ) → ¬ IsLinked [] n i
@@ -26,6 +27,7 @@ own_label count i label h =
     let f = get_or_from_slice_get (range_with_len 0 count) i label 0 h in
     omega (arith, e, f)
 
+-- no links: each ring has a label of its own
 pub none_forest : (count : ℕ) → IsForest [] (range_with_len 0 count)
 none_forest count = record {
   joined = λ i j label h k. record {
@@ -89,5 +91,6 @@ pub ring_below : (links : List Link) (count i : ℕ) (l : Link) → All (λ m. m
 ring_below links count i l all l_is =
     subst (λ (m : Link). m.ring < count) (get_or_from_slice_get links i l l l_is) (all i l (slice_get_within links i l l_is))
 
+-- a place from 1 on has a place before it
 pub before_there : (i : ℕ) → 1 ≤ i → i ≡ (i - 1) + 1
 before_there i h = omega arith

@@ -1,27 +1,24 @@
 -- Labels of rings, of which one has taken the place of another.
-use Rattle.std.proofs.Common.{◌≡◌, ◌≢◌, ◌⊎◌, inl, inr, ℕ, ◌<◌, ◌≤◌, Option, Some, None, List, [], ◌∷◌, ◌++◌, ◌+◌, length, get_or, slice_get, ap, refl, sym, ◌∙◌}
+use Rattle.std.proofs.Common.{◌≡◌, ◌≢◌, ◌⊎◌, inl, inr, ℕ, ◌<◌, ◌≤◌, Option, Some, None, List, [], ◌∷◌, ◌++◌, ◌+◌, length, get_or}
+use Rattle.std.proofs.Common.{slice_get, ap, refl, sym, ◌∙◌}
 use Rattle.std.proofs.Common.{arith}
 use Rattle.std.proofs.lemmas.Bool.{cases_eq, cases_lt}
 use Rattle.std.proofs.lemmas.List.{map-id}
 use Rattle.std.proofs.lemmas.List.FromFn.{map-range_with_len_more}
 use Rattle.std.specs.List.{range_with_len}
-use Rattle.std.proofs.lemmas.Option.{slice_get_within, slice_get-get_or, slice_get_past}
+use Rattle.std.proofs.lemmas.Option.{slice_get_within, slice_get-get_or, slice_get_past, none-some}
+use Rattle.figure_laws.proofs.Lists.Places.{some_same}
 use Rattle.point_set.specs.Validity.{IsAtPlace}
 use Rattle.ring_faults.specs.Links.{IsRelabelled}
 
-some_one : {a b : ℕ} → Some a ≡ Some b → a ≡ b
-some_one {a} {b} e = cc
-
 -- a ring has one label
 pub one_label : (labels : List ℕ) (x a b : ℕ) → IsAtPlace labels x a → IsAtPlace labels x b → a ≡ b
-one_label labels x a b h k = some_one (sym h ∙ k)
+one_label labels x a b h k = some_same (sym h ∙ k)
 
+-- rings of different labels
 pub label_differs :
     (labels : List ℕ) (x y a b : ℕ) → IsAtPlace labels x a → IsAtPlace labels y b → a ≢ b → slice_get labels x ≢ slice_get labels y
-label_differs labels x y a b h k other e = other (some_one (sym h ∙ e ∙ k))
-
-none_some : {x : ℕ} → ¬ (None ≡ Some x)
-none_some {x} e = cc
+label_differs labels x y a b h k other e = other (some_same (sym h ∙ e ∙ k))
 
 -- rings of different labels are different
 pub ring_differs : (labels : List ℕ) (x y a b : ℕ) → IsAtPlace labels x a → IsAtPlace labels y b → a ≢ b → x ≢ y
@@ -55,7 +52,7 @@ module _ (from to : ℕ) (labels new : List ℕ) (r : IsRelabelled from to label
       past beyond = let e = r.length_same in slice_get_past new x (omega arith)
 
       by : (x < length labels) ⊎ (length labels ≤ x) → slice_get new x ≡ None
-      by (inl below) = absurd (none_some (sym h ∙ slice_get-get_or labels x 0 below))
+      by (inl below) = absurd (none-some _ (sym h ∙ slice_get-get_or labels x 0 below))
       by (inr beyond) = past beyond
 
   by_label : (x y : ℕ) (o : Option ℕ) → slice_get labels x ≡ o → slice_get labels y ≡ o → slice_get new x ≡ slice_get new y

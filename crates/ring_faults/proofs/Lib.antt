@@ -1,4 +1,5 @@
 pub mod NodesApart
+pub mod Forests
 pub mod Steps
 pub mod Ways
 pub mod LinkOrder

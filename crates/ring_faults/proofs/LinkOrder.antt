@@ -9,7 +9,7 @@ use Rattle.std.proofs.lemmas.Cmp.{eq_by_cmp_equiv, ranked, tied_itself}
 use Rattle.std.proofs.lemmas.List.{get_or-take, take_more}
 use Rattle.std.proofs.lemmas.Bool.{cases_lt}
 use Rattle.std.proofs.lemmas.Option.{get_or_from_slice_get, slice_get-get_or, slice_get_within}
-use Rattle.std.specs.Option.{unwrap_or}
+use Rattle.figure_laws.proofs.Lists.Places.{some_same}
 use Rattle.std.proofs.lemmas.List.Elements.{All-from_recursion, Contains-push}
 use Rattle.std.proofs.lemmas.List.Kept.{AllPairs-cons, Contains-dedup, Contains-from_dedup, IsStrictlySortedBy-dedup}
 use Rattle.std.proofs.lemmas.List.Sorted.{Contains-permutation, IsPermutation-sym}
@@ -23,9 +23,6 @@ use Rattle.ring_faults.specs.declared.link.Link.{Link}
 use Rattle.ring_faults.proofs.NodesApart.{node_point}
 use Rattle.ring_faults.specs.LinkOrders.{compare_links_total}
 use Rattle.ring_faults.specs.Links.{compare_links}
-
-some_link : {l m : Link} → Some l ≡ Some m → l ≡ m
-some_link {l} {m} e = ap (λ o. unwrap_or o l) e
 
 -- ---- what the order says of two links
 less_not_equal : ¬ (Less ≡ Equal)
@@ -94,12 +91,14 @@ AllPairs-from_strict c [] h = λ i j d l m. absurd (omega (arith, m))
 AllPairs-from_strict c (k ∷ ks) h =
     AllPairs-cons (λ x y. c x y ≡ Less) k ks (All-from_recursion (λ y. c k y ≡ Less) ks h.0) (AllPairs-from_strict c ks h.1)
 
+-- sorted links, each kept once, ascend
 pub kept_ascends : (mid : List Link) → IsSorted compare_links mid → AllPairs (λ l m. compare_links l m ≡ Less) (kept mid)
 kept_ascends mid h = AllPairs-from_strict compare_links (kept mid) (IsStrictlySortedBy-dedup compare_links_total (λ x y. refl) mid h)
 
 equal_one : (x y : Link) → eq_by_cmp compare_links x y ≡ true → x ≡ y
 equal_one x y e = same_link x y ((Equal-is (compare_links x y)).0 e)
 
+-- and they are the same links
 pub kept_same : (old mid : List Link) → IsPermutation old mid → (l : Link) → Contains old l ↔ Contains (kept mid) l
 kept_same old mid p l = (
   λ h. Contains-dedup (eq_by_cmp_equiv compare_links_total) equal_one mid l (Contains-permutation old mid l p h),
@@ -149,4 +148,4 @@ module _ (links : List Link) (up : AllPairs (λ l m. compare_links l m ≡ Less)
               (earlier_before i (i + 1) head m (omega arith) head_is m_is) same)
           at_place (inr beyond) =
               let here : at.0 ≡ i = let under = at.1 in omega arith in
-              other (ap (λ (x : Link). x.node) (some_link (sym head_is ∙ ap (λ z. slice_get links z) (sym here) ∙ at.2)) ∙ same)
+              other (ap (λ (x : Link). x.node) (some_same (sym head_is ∙ ap (λ z. slice_get links z) (sym here) ∙ at.2)) ∙ same)

@@ -42,5 +42,6 @@ pub near_within : (e : Seg) (edges : List PartEdge) (places : List ℕ) → AreN
     → All (λ place. place < length edges) places
 near_within e edges places near =
     All-weaker (MeetsAtPlace near.window (segs_of edges)) (λ place. place < length edges)
-    (λ place m. subst (λ n. place < n) (length-map edges (λ (x : PartEdge). x.seg)) (slice_get_within (segs_of edges) place m.seg m.seg_is)) places
+    (λ place m. subst (λ n. place < n) (length-map edges (λ (x : PartEdge). x.seg))
+    (slice_get_within (segs_of edges) place m.seg m.seg_is)) places
     near.places_in.meet

@@ -7,12 +7,12 @@ use Rattle.std.proofs.lemmas.List.Elements.{All-nil, All-cons, All-head, All-tai
 use Rattle.plane_exact.specs.declared.node.Node.{Node}
 use Rattle.point_set.specs.Validity.{IsAtPlace}
 use Rattle.ring_faults.specs.declared.link.Link.{Link}
-use Rattle.ring_faults.specs.Links.{IsLinked, Step, IsApartFrom, AreStepsApart, HasCycle, IsPath, IsJoined, IsForest, IsRelabelled}
-use Rattle.ring_faults.specs.Links.{with_link, ClaimCycleLink, ClaimNextLink}
+use Rattle.ring_faults.specs.Links.{IsLinked, Step, IsApartFrom, AreStepsApart, HasCycle, IsRelabelled}
 use Rattle.ring_faults.proofs.Steps.{all_front, all_rest, AreAcross, apart_front, apart_rest, apart_across, apart_joined, across_by}
 use Rattle.ring_faults.proofs.Ways.{AreKept, kept_left, path_more, path_joined, path_links, AvoidsNode, IsCutAt, cut, path_cycle}
 use Rattle.ring_faults.proofs.FirstLinks.{IsNew, link_cases, link_new, IsRound, cycle_round, round_cycle}
 use Rattle.ring_faults.proofs.Labels.{label_differs, ring_differs, WasLabel, was_label, same_still}
+use Rattle.ring_faults.proofs.Forests.{IsForest, IsJoined, IsPath, with_link}
 
 -- a step has another ring than the stated one, and another node
 abbrev pub AvoidsStep : ℕ → Node → Step → Type 0
@@ -144,7 +144,11 @@ closed links more kept n i IsSo back fresh w =
     (apart_joined w.front ends w.apart (All-nil (IsApartFrom last), tt) across)
     (long_front links i w.place w.front last w.path other)
 
-pub cycle_link : ClaimCycleLink
+-- a node that is linked with one ring takes a link with another of an equal label: a cycle
+pub cycle_link :
+    (links : List Link) (labels : List ℕ) → IsForest links labels → (n : Node) (head i label : ℕ)
+    → IsLinked links n head → ¬ IsLinked links n i → IsAtPlace labels i label → IsAtPlace labels head label
+    → HasCycle (with_link links n i)
 cycle_link links labels forest n head i label linked fresh at head_at =
     closed links (with_link links n i) (kept_left links ((record { node = n; ring = i }) ∷ [])) n i (λ z. IsAtPlace labels z label)
     (link_new links n i) fresh
@@ -330,6 +334,10 @@ module _ (links : List Link) (labels : List ℕ) (forest : IsForest links labels
     still_forest : IsForest (with_link links n i) new
     still_forest = record { joined = all_joined; one = all_one; none = no_cycle }
 
-pub next_link : ClaimNextLink
+-- and with one of a different label: a forest in which the two labels are one
+pub next_link :
+    (links : List Link) (labels : List ℕ) → IsForest links labels → (n : Node) (head i from to : ℕ)
+    → IsLinked links n head → IsAtPlace labels i from → IsAtPlace labels head to → from ≢ to
+    → (new : List ℕ) → IsRelabelled from to labels new → IsForest (with_link links n i) new
 next_link links labels forest n head i from to linked at head_at other new r =
     still_forest links labels forest n head i from to linked at head_at other new r

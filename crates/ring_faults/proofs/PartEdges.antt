@@ -1,23 +1,20 @@
 -- The edges of parts by their places: each edge of the row is one of its part, and each edge of a part stands in the row.
-use Rattle.std.proofs.Common.{◌≡◌, ◌≢◌, ℕ, zero, suc, ◌+◌, ◌<◌, Bool, true, false, List, [], ◌∷◌, length, get_or, map, ap, refl, sym, ◌∙◌, subst, arith}
+use Rattle.std.proofs.Common.{◌≡◌, ℕ, zero, suc, ◌+◌, ◌<◌, List, [], ◌∷◌, length, get_or, map, ap, refl, sym}
+use Rattle.std.proofs.Common.{◌∙◌, subst, arith}
 use Rattle.std.specs.List.{All, Contains}
 use Rattle.std.specs.Option.{option_map}
-use Rattle.std.proofs.lemmas.Bool.{true≢false}
 use Rattle.std.proofs.lemmas.Option.{slice_get-map, slice_get_read, slice_get_within, get_or_from_slice_get}
-use Rattle.std.proofs.lemmas.List.Elements.{All-nil, All-cons, All-head, All-tail, All-append, All-map}
-use Rattle.plane_laws.specs.Plane.{IsSamePoint}
-use Rattle.plane_laws.proofs.Points.Same.{same_refl}
-use Rattle.plane_exact.specs.Places.{IsInLimit, point_of}
+use Rattle.std.proofs.lemmas.List.Elements.{All-nil, All-head, All-tail, All-append, All-map, All-weaker}
 use Rattle.plane_exact.specs.declared.point.Pt.{Pt}
 use Rattle.plane_exact.specs.declared.point.Seg.{Seg}
 use Rattle.point_set.specs.Location.{edges_of_rings}
-use Rattle.point_set.specs.Rings.{is_same_position, edge_before, edges_after, edges_of}
-use Rattle.point_set.specs.Shape.{IsWayInLimit, IsRingShaped}
+use Rattle.point_set.specs.Rings.{edges_of}
+use Rattle.point_set.specs.Shape.{IsRingShaped}
 use Rattle.point_set.specs.Validity.{IsAtPlace}
+use Rattle.figure_laws.proofs.Edges.Limits.{IsProper, proper_way}
 use Rattle.figure_laws.proofs.Lists.Items.{each_both, each_map, some_left, some_right, some_map}
 use Rattle.figure_laws.proofs.Lists.Least.{SomeItem}
 use Rattle.figure_laws.proofs.Lists.Places.{some_same}
-use Rattle.side_laws.proofs.Edges.Places.{same_positions}
 use Rattle.ring_faults.specs.declared.part.PartEdge.{PartEdge}
 use Rattle.ring_faults.specs.Parts.{IsEdgeSound, AreEdgesSound, part_edge, of_part, edges_of_parts, segs_of}
 
@@ -70,7 +67,8 @@ of_later_part segs parts first edge h =
     }
 
 -- each edge of the row comes from a part
-pub comes_from_part : (parts : List (List Seg)) (first : ℕ) (place : ℕ) (edge : PartEdge) → IsAtPlace (edges_of_parts first parts) place edge
+pub comes_from_part : (parts : List (List Seg)) (first : ℕ) (place : ℕ) (edge : PartEdge)
+    → IsAtPlace (edges_of_parts first parts) place edge
     → IsOfPart parts first edge
 comes_from_part [] first place edge is = cc
 comes_from_part (segs ∷ parts) first place edge is =
@@ -82,7 +80,8 @@ comes_from_part (segs ∷ parts) first place edge is =
     here place e is = record { number = 0; segs = segs; segs_is = refl; part_is = omega arith; place = place; seg_is = is }
 
 -- each edge of a part stands in the row
-pub stands_in_row : (parts : List (List Seg)) (first number : ℕ) (segs : List Seg) (place : ℕ) (e : Seg) (part : ℕ) → IsAtPlace parts number segs
+pub stands_in_row : (parts : List (List Seg)) (first number : ℕ) (segs : List Seg) (place : ℕ) (e : Seg) (part : ℕ)
+    → IsAtPlace parts number segs
     → IsAtPlace segs place e → part ≡ first + number
     → SomeItem (λ (edge : PartEdge). edge ≡ part_edge part e) (edges_of_parts first parts)
 stands_in_row [] first number segs place e part segs_is e_is part_is = cc
@@ -99,28 +98,10 @@ stands_in_row (others ∷ parts) first (suc number) segs place e part segs_is e_
     (stands_in_row parts (first + 1) number segs place e part segs_is e_is (omega (arith, part_is)))
 
 -- ---- the edges of shaped rings are sound
-sound_before :
-    (b : Bool) (p q : Pt) (edges : List Seg) → is_same_position p q ≡ b → IsInLimit p → IsInLimit q → All IsEdgeSound edges
-    → All IsEdgeSound (edge_before b p q edges)
-sound_before true p q edges h p_in q_in all = all
-sound_before false p q edges h p_in q_in all =
-    All-cons IsEdgeSound (record { a = p; b = q }) edges (record { start = p_in; end = q_in; moves = moves }) all
-  where
-    moves : p ≢ q
-    moves e =
-        true≢false (sym (same_positions p q (subst (λ (r : Pt). IsSamePoint (point_of p) (point_of r)) e (same_refl (point_of p)))) ∙ h)
-
-sound_after : (p : Pt) (others : List Pt) → IsInLimit p → IsWayInLimit others → All IsEdgeSound (edges_after p others)
-sound_after p [] p_in all = All-nil IsEdgeSound
-sound_after p (q ∷ others) p_in all =
-    let q_in = All-head IsInLimit q others all in
-    sound_before (is_same_position p q) p q (edges_after q others) refl p_in q_in
-    (sound_after q others q_in (All-tail IsInLimit q others all))
-
 pub sound_ring : (ring : List Pt) → IsRingShaped ring → All IsEdgeSound (edges_of ring)
-sound_ring [] shaped = All-nil IsEdgeSound
-sound_ring (p ∷ others) shaped =
-    sound_after p others (All-head IsInLimit p others shaped.within) (All-tail IsInLimit p others shaped.within)
+sound_ring ring shaped =
+    All-weaker IsProper IsEdgeSound (λ e h. record { start = h.first; end = h.second; moves = h.apart }) (edges_of ring)
+    (proper_way ring shaped.within)
 
 -- of one part
 pub sound_part : (part : ℕ) (segs : List Seg) → All IsEdgeSound segs → AreEdgesSound (of_part part segs)

@@ -15,10 +15,21 @@ use Rattle.ring_faults.specs.declared.part.PartEdge.{PartEdge}
 use Rattle.ring_faults.specs.declared.clash.Clash.TheVariants.{Crossing, Sharing}
 use Rattle.ring_faults.specs.Clashes.{SomeClash}
 use Rattle.ring_faults.specs.Joints.{HasUnjoinedPoint}
-use Rattle.ring_faults.specs.Parts.{part_edge, of_part, edges_of_parts, segs_of, PartsShareSegment}
+use Rattle.ring_faults.specs.Parts.{part_edge, of_part, edges_of_parts, segs_of}
 use Rattle.ring_faults.proofs.PartEdges.{segs_of_part, seg_at, comes_from_part, stands_in_row}
 
 -- ---- parts
+-- edges of two parts have a common segment.
+pub record PartsShareSegment (parts : List (List Seg)) : Type 0 where
+  pub i : ℕ
+  pub j : ℕ
+  pub earlier : i < j
+  pub one : List Seg
+  pub other : List Seg
+  pub one_is : IsAtPlace parts i one
+  pub other_is : IsAtPlace parts j other
+  pub share : EdgesShareSegment one other
+
 -- edges that stand at places of the row
 share_at : (parts : List (List Seg)) (e f : Seg) (i j : ℕ) → i < j → ShareSegment e f
     → SomeItem (λ (edge : PartEdge). edge ≡ part_edge i e) (edges_of_parts 0 parts)
@@ -53,7 +64,16 @@ parts_share parts = (
         other = other.segs;
         one_is = one.segs_is;
         other_is = other.segs_is;
-        share = record { i = one.place; j = other.place; e = c.e.seg; f = c.f.seg; e_is = one.seg_is; f_is = other.seg_is; share = c.share };
+        share = record {
+          i = one.place;
+          j = other.place;
+          e = c.e.seg;
+          f = c.f.seg;
+          e_is = one.seg_is;
+          f_is = other.seg_is;
+          share =
+              c.share;
+        };
       },
   λ h.
       let s = h.share in
@@ -111,6 +131,7 @@ rings_as_parts area = (
       },
 )
 
+-- so two edges of two rings clash exactly where rings of the area have a common segment
 pub rings_clash : (area : Area) → SomeClash Sharing (edges_of_parts 0 (map edges_of (rings_of area))) ↔ RingsShareSegment area
 rings_clash area =
     let clash = parts_share (map edges_of (rings_of area)) in
@@ -119,7 +140,8 @@ rings_clash area =
 
 -- ---- two areas
 -- of two parts the one is at place 0 and the other at place 1
-two_parts : (one other : List Seg) (i j : ℕ) (xs ys : List Seg) → i < j → IsAtPlace (one ∷ other ∷ []) i xs → IsAtPlace (one ∷ other ∷ []) j ys
+two_parts : (one other : List Seg) (i j : ℕ) (xs ys : List Seg) → i < j → IsAtPlace (one ∷ other ∷ []) i xs
+    → IsAtPlace (one ∷ other ∷ []) j ys
     → EdgesShareSegment xs ys → EdgesShareSegment one other
 two_parts one other zero (suc zero) xs ys below xs_is ys_is h =
     let Shares : List Seg → List Seg → Type 0 = λ xs ys. EdgesShareSegment xs ys in
@@ -130,9 +152,11 @@ two_parts one other (suc zero) zero xs ys below xs_is ys_is h = absurd (omega ar
 two_parts one other i (suc (suc j)) xs ys below xs_is ys_is h = cc
 two_parts one other (suc (suc i)) j xs ys below xs_is ys_is h = cc
 
+-- edges of two areas clash exactly where the areas have a common segment
 pub areas_clash :
     (one other : Area)
-    → SomeClash Sharing (edges_of_parts 0 (edges_of_rings (rings_of one) ∷ edges_of_rings (rings_of other) ∷ [])) ↔ AreasShareSegment one other
+    → SomeClash Sharing (edges_of_parts 0 (edges_of_rings (rings_of one) ∷ edges_of_rings (rings_of other) ∷ [])) ↔ AreasShareSegment one
+    other
 areas_clash one other =
     let first = edges_of_rings (rings_of one) in
     let second = edges_of_rings (rings_of other) in
@@ -175,7 +199,8 @@ ring_clash ring = (λ h. crosses h, λ h. clashes h)
 
     clashes : CrossesItself ring → SomeClash Crossing (of_part 0 (edges_of ring))
     clashes h =
-        let u : HasUnjoinedPoint (edges_of ring) h.i h.j h.e h.f = record { p = h.p; on_e = h.on_e; on_f = h.on_f; unjoined = h.unjoined } in
+        let u : HasUnjoinedPoint (edges_of ring) h.i h.j h.e h.f =
+        record { p = h.p; on_e = h.on_e; on_f = h.on_f; unjoined = h.unjoined } in
         record {
           i = h.i;
           j = h.j;

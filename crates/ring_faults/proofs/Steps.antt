@@ -4,11 +4,12 @@ use Rattle.std.specs.List.{All}
 use Rattle.std.proofs.lemmas.List.Elements.{All-nil, All-cons, All-head, All-tail, All-append}
 use Rattle.ring_faults.specs.Links.{Step, IsApartFrom, AreStepsApart}
 
--- what holds of each item of a joined list holds of each item of its front, and of its rest
+-- what holds of each item of a joined list holds of each item of its front
 pub all_front : {X : Type 0} (P : X → Type 0) (xs ys : List X) → All P (xs ++ ys) → All P xs
 all_front P [] ys h = All-nil P
 all_front P (x ∷ xs) ys h = All-cons P x xs (All-head P x (xs ++ ys) h) (all_front P xs ys (All-tail P x (xs ++ ys) h))
 
+-- and of each item of its rest
 pub all_rest : {X : Type 0} (P : X → Type 0) (xs ys : List X) → All P (xs ++ ys) → All P ys
 all_rest P [] ys h = h
 all_rest P (x ∷ xs) ys h = all_rest P xs ys (All-tail P x (xs ++ ys) h)
@@ -21,18 +22,22 @@ all_both P Q xs h k = λ i d below. (h i d below, k i d below)
 abbrev pub AreAcross : List Step → List Step → Type 0
 AreAcross xs ys = All (λ x. All (IsApartFrom x) ys) xs
 
+-- the front of steps that are apart
 pub apart_front : (xs ys : List Step) → AreStepsApart (xs ++ ys) → AreStepsApart xs
 apart_front [] ys h = tt
 apart_front (x ∷ xs) ys h = (all_front (IsApartFrom x) xs ys h.0, apart_front xs ys h.1)
 
+-- their rest
 pub apart_rest : (xs ys : List Step) → AreStepsApart (xs ++ ys) → AreStepsApart ys
 apart_rest [] ys h = h
 apart_rest (x ∷ xs) ys h = apart_rest xs ys h.1
 
+-- each step of the front from each of the rest
 pub apart_across : (xs ys : List Step) → AreStepsApart (xs ++ ys) → AreAcross xs ys
 apart_across [] ys h = All-nil (λ x. All (IsApartFrom x) ys)
 apart_across (x ∷ xs) ys h = All-cons (λ z. All (IsApartFrom z) ys) x xs (all_rest (IsApartFrom x) xs ys h.0) (apart_across xs ys h.1)
 
+-- and such lists joined
 pub apart_joined : (xs ys : List Step) → AreStepsApart xs → AreStepsApart ys → AreAcross xs ys → AreStepsApart (xs ++ ys)
 apart_joined [] ys h k across = k
 apart_joined (x ∷ xs) ys h k across =

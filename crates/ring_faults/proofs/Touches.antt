@@ -1,5 +1,6 @@
 -- Links that are added where edges of two parts touch.
-use Rattle.std.proofs.Common.{◌≡◌, ◌⊎◌, inl, inr, ℕ, ◌+◌, ◌<◌, ◌≤◌, List, [], ◌∷◌, ◌++◌, length, get_or, take, ap, refl, sym, ◌∙◌, subst, arith}
+use Rattle.std.proofs.Common.{◌≡◌, ◌⊎◌, inl, inr, ℕ, ◌+◌, ◌<◌, ◌≤◌, List, [], ◌∷◌, ◌++◌, length, get_or, take, ap, refl, sym, ◌∙◌}
+use Rattle.std.proofs.Common.{subst, arith}
 use Rattle.std.specs.List.{Contains}
 use Rattle.std.proofs.lemmas.Bool.{cases_lt}
 use Rattle.std.proofs.lemmas.List.{take_more}
@@ -20,7 +21,7 @@ use Rattle.ring_faults.specs.declared.part.PartEdge.{PartEdge}
 use Rattle.ring_faults.specs.declared.clash.Clash.TheVariants.{Sharing}
 use Rattle.ring_faults.specs.Clashes.{AreNearPlaces, SomeClash}
 use Rattle.ring_faults.specs.Parts.{IsOnPart, segs_of}
-use Rattle.ring_faults.specs.Touches.{AreLinkedAt, IsAmong, IsBeforePlace, AddsTouches, AreLinksOfParts}
+use Rattle.ring_faults.specs.Touches.{AreLinkedAt, IsAmong, AddsTouches, AreLinksOfParts}
 use Rattle.ring_faults.proofs.NearPlaces.{near_edge}
 use Rattle.ring_faults.proofs.Overlaps.{along_shares}
 use Rattle.ring_faults.proofs.PartEdges.{contained_at}
@@ -51,7 +52,8 @@ adds_node edges e f links n e_in f_in meets = record { kept = kept; sound = soun
         Contains-append_left (links ++ (record { node = n; ring = e.part }) ∷ []) ((record { node = n; ring = f.part }) ∷ []) l
         (Contains-append_left links ((record { node = n; ring = e.part }) ∷ []) l h)
 
-    of_link : (l : Link) (edge : PartEdge) → (let m : Link = record { node = n; ring = edge.part } in m) ≡ l → IsOnPart edges edge.part (point_at n)
+    of_link : (l : Link) (edge : PartEdge) → (let m : Link = record { node = n; ring = edge.part } in m) ≡ l
+        → IsOnPart edges edge.part (point_at n)
         → IsOnPart edges l.ring (point_at l.node)
     of_link l edge e on = subst (λ (m : Link). IsOnPart edges m.ring (point_at m.node)) e on
 
@@ -124,7 +126,8 @@ adds_at_none edges e places links = record {
 }
 
 -- an edge among those at one place more
-among_more : (edges : List PartEdge) (places : List ℕ) (k : ℕ) (f other : PartEdge) → k < length places → IsAtPlace edges (get_or places k 0) f
+among_more : (edges : List PartEdge) (places : List ℕ) (k : ℕ) (f other : PartEdge) → k < length places
+    → IsAtPlace edges (get_or places k 0) f
     → IsAmong edges (take (k + 1) places) other → IsAmong edges (take k places) other ⊎ (other ≡ f)
 among_more edges places k f other below f_is among =
     by (Contains-push_cases (take k places) (get_or places k 0) among.place
@@ -145,7 +148,8 @@ adds_more edges e places k f old mid new below f_is h g = record {
   whole = λ other among less p c. by other less p c (among_more edges places k f other below f_is among);
 }
   where
-    from_new : (l : Link) → Contains mid l ⊎ IsOnPart edges l.ring (point_at l.node) → Contains old l ⊎ IsOnPart edges l.ring (point_at l.node)
+    from_new : (l : Link) → Contains mid l ⊎ IsOnPart edges l.ring (point_at l.node)
+        → Contains old l ⊎ IsOnPart edges l.ring (point_at l.node)
     from_new l (inl c) = h.sound l c
     from_new l (inr on) = inr on
 
@@ -171,6 +175,12 @@ adds_same edges e places k f old new below f_is h later = record {
     by other less p c (inr same) = let e : other.part ≡ f.part = ap (λ (x : PartEdge). x.part) same in absurd (omega arith)
 
 -- ---- each edge in turn
+-- an edge is at a place before another
+pub record IsBeforePlace (edges : List PartEdge) (bound : ℕ) (edge : PartEdge) : Type 0 where
+  pub place : ℕ
+  pub below : place < bound
+  pub is : IsAtPlace edges place edge
+
 -- no edge so far
 pub links_of_none : (edges : List PartEdge) → AreLinksOfParts edges (IsBeforePlace edges 0) []
 links_of_none edges = record {
@@ -195,12 +205,15 @@ links_more edges i e places old new e_is near h g = record {
     here : (f : PartEdge) → Contains edges f → f.part < e.part → (p : Point) → IsCommon e.seg f.seg p → AreLinkedAt new p e.part f.part
     here f there less p c =
         let f_is = contained_at edges f there in
-        g.whole f (record { place = there.0; there = near_edge e.seg edges places near there.0 f f_is p c.first c.second; is = f_is }) less p c
+        g.whole f (record { place = there.0; there = near_edge e.seg edges places near there.0 f f_is p c.first c.second; is = f_is })
+        less p c
 
-    by : (e' f : PartEdge) → Contains edges f → f.part < e'.part → (p : Point) → IsCommon e'.seg f.seg p → (before : IsBeforePlace edges (i + 1) e')
+    by : (e' f : PartEdge) → Contains edges f → f.part < e'.part → (p : Point) → IsCommon e'.seg f.seg p
+        → (before : IsBeforePlace edges (i + 1) e')
         → (before.place < i) ⊎ (i ≤ before.place) → AreLinkedAt new p e'.part f.part
     by e' f there less p c before (inl below) =
-        linked_more old new p e'.part f.part g.kept (h.whole e' f (record { place = before.place; below = below; is = before.is }) there less p c)
+        linked_more old new p e'.part f.part g.kept
+        (h.whole e' f (record { place = before.place; below = below; is = before.is }) there less p c)
     by e' f there less p c before (inr past) =
         let under = before.below in
         let place : before.place ≡ i = omega (arith, under, past) in
@@ -209,7 +222,8 @@ links_more edges i e places old new e_is near h g = record {
         (here f there (subst (λ (x : PartEdge). f.part < x.part) same less) p (subst (λ (x : PartEdge). IsCommon x.seg f.seg p) same c))
 
 -- all edges
-pub links_all : (edges : List PartEdge) (bound : ℕ) (links : List Link) → length edges ≤ bound → AreLinksOfParts edges (IsBeforePlace edges bound) links
+pub links_all : (edges : List PartEdge) (bound : ℕ) (links : List Link) → length edges ≤ bound
+    → AreLinksOfParts edges (IsBeforePlace edges bound) links
     → AreLinksOfParts edges (λ e. Contains edges e) links
 links_all edges bound links past h = record {
   sound = h.sound;

@@ -1,29 +1,30 @@
 -- Two edges of a ring have a common point that isn't their joint exactly where the answer of `meet` says so.
-use Rattle.std.proofs.Common.{◌≡◌, ◌⊎◌, inl, inr, ℕ, ◌+◌, Bool, true, false, List, length, refl, sym, ◌∙◌, arith}
-use Rattle.std.proofs.lemmas.Bool.{cases_eq, false≢true}
+use Rattle.std.proofs.Common.{◌↔◌, ◌⊎◌, inl, inr, ℕ, ◌+◌, List, length, arith}
+use Rattle.std.proofs.lemmas.Bool.{cases_eq}
 use Rattle.plane_exact.specs.NodePoints.{point_at}
 use Rattle.plane_exact.specs.Places.{point_of}
-use Rattle.plane_laws.specs.Plane.{Point, IsSamePoint, IsOnSegment, IsStrictlyBetween, is_same_point}
+use Rattle.plane_laws.specs.Plane.{Point, IsSamePoint, IsOnSegment, IsStrictlyBetween}
 use Rattle.plane_exact.specs.declared.point.Pt.{Pt}
 use Rattle.plane_exact.specs.declared.point.Seg.{Seg}
 use Rattle.plane_laws.proofs.Segments.Mixes.{start_on_segment, end_on_segment, on_from_strictly_between}
-use Rattle.plane_laws.proofs.Points.Same.{same_sym, same_trans, Decides-is_same_point}
-use Rattle.seg_cross.specs.Meets.{IsOverlap}
+use Rattle.plane_laws.proofs.Points.Same.{same_sym, same_trans}
+use Rattle.seg_cross.specs.Meets.{IsMeet, IsOverlap}
+use Rattle.seg_cross.specs.declared.answer.Meet.{Meet}
 use Rattle.seg_cross.specs.declared.answer.Meet.TheVariants.{Apart, At, Along}
 use Rattle.point_set.specs.Validity.{IsJoint}
 use Rattle.side_laws.proofs.Edges.Germ.{between_not_start, between_not_end}
 use Rattle.side_laws.proofs.Rings.Joint.{near_start}
-use Rattle.ring_faults.specs.Joints.{HasUnjoinedPoint, ClaimUnjoined}
+use Rattle.ring_faults.specs.Joints.{HasUnjoinedPoint}
+use Rattle.meeting_laws.proofs.Ways.OneLine.{same_or_not}
 use Rattle.ring_faults.proofs.Overlaps.{overlap_apart}
 
--- ---- whether a point is the joint is decided
-same_or_apart : (p q : Point) → IsSamePoint p q ⊎ (¬ IsSamePoint p q)
-same_or_apart p q = by (is_same_point p q) refl
-  where
-    by : (b : Bool) → is_same_point p q ≡ b → IsSamePoint p q ⊎ (¬ IsSamePoint p q)
-    by true e = inl ((Decides-is_same_point p q).0 e)
-    by false e = inr (λ h. false≢true (sym e ∙ (Decides-is_same_point p q).1 h))
+-- What a meeting says of the joint: the edges have a common point, and not the joint alone.
+abbrev pub IsUnjoined : List Seg → ℕ → ℕ → Seg → Seg → Meet → Type 0
+IsUnjoined edges i j e f Apart = ⊥
+IsUnjoined edges i j e f (At n) = ¬ IsJoint edges i j e f (point_at n)
+IsUnjoined edges i j e f (Along p q) = Unit {0}
 
+-- ---- whether a point is the joint is decided
 both_or_not : {P Q : Type 0} → P ⊎ (¬ P) → Q ⊎ (¬ Q) → (P × Q) ⊎ (¬ (P × Q))
 both_or_not {P} {Q} (inl p) (inl q) = inl (p, q)
 both_or_not {P} {Q} (inl p) (inr denied) = inr (λ h. denied h.1)
@@ -47,8 +48,8 @@ one_or_not {P} {Q} (inr denied) (inr none) = inr neither
 module _ (edges : List Seg) (i j : ℕ) (e f : Seg) where
   joint_or_not : (p : Point) → IsJoint edges i j e f p ⊎ (¬ IsJoint edges i j e f p)
   joint_or_not p =
-      one_or_not (both_or_not (cases_eq j (i + 1)) (same_or_apart (point_of f.a) p))
-      (all_or_not (cases_eq i 0) (cases_eq (j + 1) (length edges)) (same_or_apart (point_of e.a) p))
+      one_or_not (both_or_not (cases_eq j (i + 1)) (same_or_not (point_of f.a) p))
+      (all_or_not (cases_eq i 0) (cases_eq (j + 1) (length edges)) (same_or_not (point_of e.a) p))
 
   -- the joint at one point is the joint at the same point
   joint_same : (p q : Point) → IsSamePoint p q → IsJoint edges i j e f p → IsJoint edges i j e f q
@@ -97,7 +98,9 @@ along_unjoined : (edges : List Seg) (i j : ℕ) (e f : Seg) (p q : Pt) → IsOve
 along_unjoined edges i j e f p q over =
     let apart = overlap_apart e f p q over in along_at edges i j e f p q over _ (near_start p q apart 1 (omega arith))
 
-pub unjoined : ClaimUnjoined
+-- the answer of `meet` decides it; the places and the ring itself do not matter
+pub unjoined :
+    (edges : List Seg) (i j : ℕ) (e f : Seg) (m : Meet) → IsMeet e f m → IsUnjoined edges i j e f m ↔ HasUnjoinedPoint edges i j e f
 unjoined edges i j e f Apart none = (λ h. absurd h, λ h. none h.p (record { first = h.on_e; second = h.on_f }))
 unjoined edges i j e f (At n) only = (
   λ h. record { p = point_at n; on_e = only.common.first; on_f = only.common.second; unjoined = h },

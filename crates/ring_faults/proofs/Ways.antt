@@ -4,22 +4,26 @@ use Rattle.std.specs.List.{All}
 use Rattle.std.proofs.lemmas.List.Elements.{All-nil, All-cons, Contains-append_left}
 use Rattle.plane_exact.specs.declared.node.Node.{Node}
 use Rattle.ring_faults.specs.declared.link.Link.{Link}
-use Rattle.ring_faults.specs.Links.{IsLinked, Step, AreStepsApart, IsStepChain, HasCycle, IsPath, ClaimMoreLinks}
+use Rattle.ring_faults.specs.Links.{IsLinked, Step, AreStepsApart, IsStepChain, HasCycle}
 use Rattle.ring_faults.proofs.NodesApart.{same_or_not}
+use Rattle.ring_faults.proofs.Forests.{IsPath}
 
 -- links that are kept among others
 abbrev pub AreKept : List Link → List Link → Type 0
 AreKept links more = (n : Node) (i : ℕ) → IsLinked links n i → IsLinked more n i
 
+-- links are kept where more are added
 pub kept_left : (links more : List Link) → AreKept links (links ++ more)
 kept_left links more n i h = Contains-append_left links more (record { node = n; ring = i }) h
 
+-- a way by kept links
 pub path_more :
     (links more : List Link) → AreKept links more → (i j : ℕ) (steps : List Step) → IsPath links i steps j → IsPath more i steps j
 path_more links more kept i j [] h = h
 path_more links more kept i j (step ∷ steps) h =
     let to = h.2 in (h.0, kept step.node i h.1, (to.0, kept step.node to.0 to.1, path_more links more kept to.0 j steps to.2))
 
+-- two ways, the second from where the first ends
 pub path_joined :
     (links : List Link) (i k j : ℕ) (xs ys : List Step) → IsPath links i xs k → IsPath links k ys j → IsPath links i (xs ++ ys) j
 path_joined links i k j [] ys h g = subst (λ (z : ℕ). IsPath links z ys j) (sym h) g
@@ -44,6 +48,7 @@ pub record IsCutAt (links : List Link) (n : Node) (i j : ℕ) (steps : List Step
   pub enters : IsLinked links n next
   pub after : IsPath links next back j
 
+-- a step leaves by another node
 abbrev pub AvoidsNode : Node → Step → Type 0
 AvoidsNode n s = s.node ≢ n
 
@@ -117,7 +122,9 @@ chain_more links more kept start step [] h = (kept step.node step.place h.0, kep
 chain_more links more kept start step (next ∷ others) h =
     (kept step.node step.place h.0, kept step.node next.place h.1, chain_more links more kept start next others h.2)
 
-pub cycle_more : ClaimMoreLinks
+-- more links keep a cycle
+pub cycle_more :
+    (links more : List Link) → HasCycle links → HasCycle (links ++ more)
 cycle_more links more c = record {
   start = c.start;
   second = c.second;

@@ -1,10 +1,10 @@
 -- Edges of several parts, as the rings of an area or two areas: each edge with the number of its part.
-use Rattle.std.specs.Prelude.{◌≡◌, ◌≢◌, ℕ, ◌+◌, ◌<◌, List, [], ◌∷◌, ◌++◌, map, Contains}
+use Rattle.std.specs.Prelude.{◌≡◌, ◌≢◌, ℕ, ◌+◌, List, [], ◌∷◌, ◌++◌, map, Contains}
 use Rattle.std.specs.List.{All}
 use Rattle.plane_exact.specs.Places.{IsInLimit}
 use Rattle.plane_laws.specs.Plane.{Point}
 use Rattle.plane_exact.specs.declared.point.Seg.{Seg}
-use Rattle.point_set.specs.Validity.{IsAtPlace, IsOnEdge, EdgesShareSegment}
+use Rattle.point_set.specs.Validity.{IsOnEdge}
 use Rattle.ring_faults.specs.declared.part.PartEdge.{PartEdge}
 
 -- An edge has two different ends within the limit.
@@ -40,14 +40,3 @@ pub record IsOnPart (edges : List PartEdge) (part : ℕ) (p : Point) : Type 0 wh
   pub there : Contains edges edge
   pub part_is : edge.part ≡ part
   pub on : IsOnEdge edge.seg p
-
--- Edges of two parts have a common segment.
-pub record PartsShareSegment (parts : List (List Seg)) : Type 0 where
-  pub i : ℕ
-  pub j : ℕ
-  pub earlier : i < j
-  pub one : List Seg
-  pub other : List Seg
-  pub one_is : IsAtPlace parts i one
-  pub other_is : IsAtPlace parts j other
-  pub share : EdgesShareSegment one other

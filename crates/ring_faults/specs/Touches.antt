@@ -23,12 +23,6 @@ pub record IsAmong (edges : List PartEdge) (places : List ℕ) (edge : PartEdge)
   pub there : Contains places place
   pub is : IsAtPlace edges place edge
 
--- An edge is at a place before another.
-pub record IsBeforePlace (edges : List PartEdge) (bound : ℕ) (edge : PartEdge) : Type 0 where
-  pub place : ℕ
-  pub below : place < bound
-  pub is : IsAtPlace edges place edge
-
 -- Links of the common points of an edge with edges of earlier parts were added: all those of some edges, and no other link
 -- than that of a point with a part that holds it.
 pub record AddsTouches (edges : List PartEdge) (e : PartEdge) (IsDone : PartEdge → Type 0) (old new : List Link) : Type 0 where

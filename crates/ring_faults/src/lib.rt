@@ -7,6 +7,8 @@ mod forest;
 mod link;
 mod near;
 mod part;
+#[cfg(test)]
+mod ring_tests;
 mod rings;
 mod touch;
 

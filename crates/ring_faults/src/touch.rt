@@ -57,7 +57,8 @@ fn add_touch(links: &mut Vec<Link>, e: PartEdge, f: PartEdge) -> Result<(), NoMe
     requires e { IsEdgeSound e.seg }
     requires f { IsEdgeSound f.seg }
     requires unshared { ¬ ShareSegment e.seg f.seg }
-    ensures adds { OnOk result ((edges : List PartEdge) → Contains edges e → Contains edges f → AddsTouches edges e (λ other. other ≡ f) links.old.items links.new.items) }
+    ensures adds { OnOk result ((edges : List PartEdge) → Contains edges e → Contains edges f
+        → AddsTouches edges e (λ other. other ≡ f) links.old.items links.new.items) }
 {
     match meet(e.seg, f.seg) {
         Meet::Apart | Meet::Along(_, _) => Ok(()),

@@ -29,6 +29,7 @@ pub returns-in-Along : goal.returns-in-Along
 returns-in-Along c =
     record {
       unjoined = λ edges long.
-          let both = unjoined edges c.args.i c.args.j c.args.e c.args.f (Along c.in-Along.field-0 c.in-Along.field-1) c.in-Along.ensures.exact in
+          let both = unjoined edges c.args.i c.args.j c.args.e c.args.f (Along c.in-Along.field-0 c.in-Along.field-1)
+          c.in-Along.ensures.exact in
           (λ _. both.0 tt, λ _. refl);
     }

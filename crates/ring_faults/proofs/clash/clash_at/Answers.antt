@@ -32,4 +32,7 @@ returns-else-e-f c =
     let edges = c.args.edges.now in
     let e_is = slice_get_read edges (length edges) c.args.i c.at-e.result.now refl c.requires.i c.at-e.ensures.item in
     let f_is = slice_get_read edges (length edges) c.args.j c.at-f.result.now refl c.requires.j c.at-f.ensures.item in
-    record { clash = sharing_late edges c.args.i c.args.j c.at-e.result.now c.at-f.result.now e_is f_is c.args.clash c.in-Sharing.is c.if-e-f.false }
+    record {
+      clash = sharing_late edges c.args.i c.args.j c.at-e.result.now c.at-f.result.now e_is f_is c.args.clash c.in-Sharing.is
+          c.if-e-f.false;
+    }

@@ -11,7 +11,8 @@ returns c =
     let node = c.args.node.now in
     record {
       same = (
-        λ t. subst (λ (p : Point). IsSamePoint p (point_at node)) c.at_point.ensures.point (node_point at node (c.is_same_node.ensures.same.0 t)),
+        λ t. subst (λ (p : Point). IsSamePoint p (point_at node)) c.at_point.ensures.point
+            (node_point at node (c.is_same_node.ensures.same.0 t)),
         λ h. c.is_same_node.ensures.same.1
             (one_node at node (subst (λ (p : Point). IsSamePoint p (point_at node)) (sym c.at_point.ensures.point) h)),
       );

@@ -34,6 +34,7 @@ returns c =
         λ t. absurd (false≢true t),
         λ h.
             let some = subst (SomeClash c.args.clash) (sym c.in_ok-near.ensures.edges) h in
-            absurd (no_clashes c.args.clash c.in_ok-near.near.edges c.loop-i.i (omega arith) c.loop-i.invariant some.i some.j some.clash_at),
+            absurd (no_clashes c.args.clash c.in_ok-near.near.edges c.loop-i.i (omega arith) c.loop-i.invariant some.i some.j
+            some.clash_at),
       );
     }

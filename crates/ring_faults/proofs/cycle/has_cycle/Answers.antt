@@ -9,7 +9,7 @@ use Rattle.ring_faults.specs.declared.clash.Clash.TheVariants.{Sharing}
 use Rattle.ring_faults.specs.declared.link.Link.{Link}
 use Rattle.ring_faults.specs.declared.part.PartEdge.{PartEdge}
 use Rattle.ring_faults.specs.Clashes.{SomeClash}
-use Rattle.ring_faults.specs.Links.{AreLinksOf, HasCycle}
+use Rattle.ring_faults.specs.Links.{HasCycle}
 use Rattle.ring_faults.specs.Parts.{AreEdgesSound}
 use Rattle.ring_faults.specs.Touches.{AreLinksOfParts}
 use Rattle.ring_faults.proofs.AreaLinks.{area_links, links_same, rings_below}
@@ -17,6 +17,7 @@ use Rattle.ring_faults.proofs.Cycles.{cycle}
 use Rattle.ring_faults.proofs.PartEdges.{sound_rings}
 use Rattle.ring_faults.proofs.PartsShare.{rings_clash}
 use Rattle.ring_faults.proofs.cycle.has_cycle.Goals as goal
+use Rattle.ring_faults.proofs.Forests.{AreLinksOf}
 
 pub links_of-requires-clause-sound : goal.links_of-requires-clause-sound
 links_of-requires-clause-sound c =
@@ -34,7 +35,8 @@ have_cycle-requires-clause-rings c =
     let links = c.in_ok-links.links.items in
     let of =
     area_links area links
-    (subst (λ (edges : List PartEdge). AreLinksOfParts edges (λ e. Contains edges e) links) c.in_ok-edges.ensures.edges c.in_ok-links.ensures.links) in
+    (subst (λ (edges : List PartEdge). AreLinksOfParts edges (λ e. Contains edges e) links) c.in_ok-edges.ensures.edges
+    c.in_ok-links.ensures.links) in
     let sorted = links_same area links c.sort_links.new.links.items of c.sort_links.ensures.same in
     rings_below area c.as_slice.result.now (c.len.result + 1) (ap (λ n. n + 1) c.len.ensures.length ∙ add-one (length area.holes))
     (subst (λ (ls : List Link). AreLinksOf area ls) (sym c.as_slice.ensures.value) sorted)
@@ -45,7 +47,8 @@ returns c =
     let links = c.in_ok-links.links.items in
     let of =
     area_links area links
-    (subst (λ (edges : List PartEdge). AreLinksOfParts edges (λ e. Contains edges e) links) c.in_ok-edges.ensures.edges c.in_ok-links.ensures.links) in
+    (subst (λ (edges : List PartEdge). AreLinksOfParts edges (λ e. Contains edges e) links) c.in_ok-edges.ensures.edges
+    c.in_ok-links.ensures.links) in
     let sorted = links_same area links c.sort_links.new.links.items of c.sort_links.ensures.same in
     let all = c.as_slice.result.now in
     let both : HasTouchCycle area ↔ HasCycle all =

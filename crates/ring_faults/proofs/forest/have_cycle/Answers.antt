@@ -4,16 +4,18 @@ use Rattle.std.proofs.lemmas.List.{with_items_is}
 use Rattle.std.proofs.lemmas.List.FromFn.{length-range_with_len}
 use Rattle.std.proofs.lemmas.Option.{slice_get_read}
 use Rattle.point_set.specs.Validity.{IsAtPlace}
-use Rattle.ring_faults.specs.Links.{IsForest, IsRelabelled, HasCycle}
+use Rattle.ring_faults.specs.Links.{IsRelabelled, HasCycle}
 use Rattle.ring_faults.proofs.ForestSteps.{one_forest, apart_forest, joined_forest, closed_cycle, ring_below, before_there}
 use Rattle.ring_faults.proofs.forest.have_cycle.Goals.{then-is_same_node+else-from-to, else-is_same_node}
 use Rattle.ring_faults.proofs.forest.have_cycle.Goals as goal
+use Rattle.ring_faults.proofs.Forests.{IsForest}
 
 pub loop-i-init : goal.loop-i-init
 loop-i-init c =
     let e = c.in_ok-labels.ensures.labels in
     record {
-      forest = subst (λ (labels : List ℕ). IsForest (take 1 c.args.links.now) labels) (sym e) (one_forest c.args.links.now (c.args.last + 1));
+      forest = subst (λ (labels : List ℕ). IsForest (take 1 c.args.links.now) labels) (sym e)
+          (one_forest c.args.links.now (c.args.last + 1));
       count = ap length e ∙ length-range_with_len 0 (c.args.last + 1);
     }
 

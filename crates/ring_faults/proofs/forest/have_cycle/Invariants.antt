@@ -1,7 +1,7 @@
 -- The labels are those of the links before the place.
 use Rattle.std.proofs.Common.{◌≡◌, ◌+◌, length, take}
-use Rattle.ring_faults.specs.Links.{IsForest}
 use Rattle.ring_faults.proofs.forest.have_cycle.Given as goal
+use Rattle.ring_faults.proofs.Forests.{IsForest}
 
 abbrev pub invariant-loop-i : goal.invariant-loop-i
 invariant-loop-i l = record {

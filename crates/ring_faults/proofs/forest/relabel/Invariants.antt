@@ -1,7 +1,7 @@
 -- The labels before the index are replaced, and the others are as they were.
 use Rattle.std.proofs.Common.{◌≡◌, ◌≤◌, ◌<◌, ℕ, length, get_or}
-use Rattle.ring_faults.specs.Links.{IsSwapped}
 use Rattle.ring_faults.proofs.forest.relabel.Given as goal
+use Rattle.ring_faults.proofs.Forests.{IsSwapped}
 
 abbrev pub invariant-loop-label : goal.invariant-loop-label
 invariant-loop-label l = record {

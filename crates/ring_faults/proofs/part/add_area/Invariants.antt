@@ -6,4 +6,5 @@ use Rattle.ring_faults.proofs.part.add_area.Given as goal
 
 abbrev pub invariant-loop-hole : goal.invariant-loop-hole
 invariant-loop-hole l =
-    l.fn.edges ++ of_part l.part (edges_of_rings (rings_of l.area)) ≡ l.edges ++ of_part l.part (edges_of_rings (drop l.hole-index l.hole-items))
+    l.fn.edges ++ of_part l.part (edges_of_rings (rings_of l.area)) ≡ l.edges ++ of_part l.part
+    (edges_of_rings (drop l.hole-index l.hole-items))

@@ -6,4 +6,5 @@ use Rattle.ring_faults.proofs.part.add_edges_after.Given as goal
 
 abbrev pub invariant-loop-p : goal.invariant-loop-p
 invariant-loop-p l =
-    l.fn.edges ++ of_part l.part (edges_after l.fn.first l.others) ≡ l.edges ++ of_part l.part (edges_after l.last (drop l.p-index l.others))
+    l.fn.edges ++ of_part l.part (edges_after l.fn.first l.others) ≡ l.edges ++ of_part l.part
+    (edges_after l.last (drop l.p-index l.others))

@@ -28,7 +28,8 @@ two_areas :
 two_areas one other empty first both none e f =
     f ∙ ap (λ (xs : List PartEdge). xs ++ of_part 1 (edges_of_rings (rings_of other)))
     (e ∙ ap (λ (xs : List PartEdge). xs ++ of_part 0 (edges_of_rings (rings_of one))) none)
-    ∙ ap (λ (xs : List PartEdge). of_part 0 (edges_of_rings (rings_of one)) ++ xs) (sym (append-nil (of_part 1 (edges_of_rings (rings_of other)))))
+    ∙ ap (λ (xs : List PartEdge). of_part 0 (edges_of_rings (rings_of one)) ++ xs)
+    (sym (append-nil (of_part 1 (edges_of_rings (rings_of other)))))
 
 pub some_clash-requires : goal.some_clash-requires
 some_clash-requires c =
@@ -37,7 +38,8 @@ some_clash-requires c =
     record {
       sound = subst AreEdgesSound
           (sym (c.in_ok-add_area-2.ensures.edges ∙ ap (λ (xs : List PartEdge). xs ++ of_part 1 (edges_of_rings (rings_of other)))
-          (c.in_ok-add_area.ensures.edges ∙ ap (λ (xs : List PartEdge). xs ++ of_part 0 (edges_of_rings (rings_of one))) c.new-edges.ensures.empty)))
+          (c.in_ok-add_area.ensures.edges
+          ∙ ap (λ (xs : List PartEdge). xs ++ of_part 0 (edges_of_rings (rings_of one))) c.new-edges.ensures.empty)))
           (All-append (λ (edge : PartEdge). IsEdgeSound edge.seg) (of_part 0 (edges_of_rings (rings_of one)))
           (of_part 1 (edges_of_rings (rings_of other))) (area_sound one 0 c.requires.one) (area_sound other 1 c.requires.other));
     }
@@ -47,7 +49,8 @@ returns c =
     let one = c.args.one.now in
     let other = c.args.other.now in
     let is =
-    two_areas one other c.new-edges.result c.add_area.new.edges c.add_area-2.new.edges c.new-edges.ensures.empty c.in_ok-add_area.ensures.edges
+    two_areas one other c.new-edges.result c.add_area.new.edges c.add_area-2.new.edges c.new-edges.ensures.empty
+    c.in_ok-add_area.ensures.edges
     c.in_ok-add_area-2.ensures.edges in
     let both = areas_clash one other in
     record {

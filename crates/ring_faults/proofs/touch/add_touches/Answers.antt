@@ -24,13 +24,16 @@ loop-place-preserved c =
     let old = c.args.links.now.items in
     let same = c.as_slice-place-items.ensures.items in
     let below : k < length places = subst (λ (ps : List ℕ). k < length ps) same c.loop-place-test.true in
-    let f_is = read_edge edges c.as_slice-place-items.result.now places k f same c.loop-place-test.true c.requires.places c.at-f.ensures.item in
+    let f_is = read_edge edges c.as_slice-place-items.result.now places k f same c.loop-place-test.true c.requires.places
+    c.at-f.ensures.item in
     elim c.if-f-e.branch [
       | then-f-e+in_ok-add_touch w ↦
-          subst (λ (new : List Link). AddsTouches edges e (IsAmong edges (take (k + 1) places)) old new) (sym (ap (λ v. v.items) w.links-is))
+          subst (λ (new : List Link). AddsTouches edges e (IsAmong edges (take (k + 1) places)) old new)
+          (sym (ap (λ v. v.items) w.links-is))
           (adds_more edges e places k f old c.loop-place.links.items w.add_touch.new.links.items below f_is c.loop-place.invariant
           (w.in_ok-add_touch.ensures.adds edges c.requires.there (contains_at edges _ f f_is)))
       | else-f-e w ↦
-          subst (λ (new : List Link). AddsTouches edges e (IsAmong edges (take (k + 1) places)) old new) (sym (ap (λ v. v.items) w.links-is))
+          subst (λ (new : List Link). AddsTouches edges e (IsAmong edges (take (k + 1) places)) old new)
+          (sym (ap (λ v. v.items) w.links-is))
           (adds_same edges e places k f old c.loop-place.links.items below f_is c.loop-place.invariant w.if-f-e.false)
     ]

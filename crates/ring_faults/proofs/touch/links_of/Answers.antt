@@ -3,9 +3,9 @@ use Rattle.std.specs.List.{Contains}
 use Rattle.std.proofs.lemmas.Option.{slice_get_read}
 use Rattle.ring_faults.specs.declared.link.Link.{Link}
 use Rattle.ring_faults.specs.declared.part.PartEdge.{PartEdge}
-use Rattle.ring_faults.specs.Touches.{AreLinksOfParts, IsBeforePlace}
+use Rattle.ring_faults.specs.Touches.{AreLinksOfParts}
 use Rattle.ring_faults.proofs.NearPlaces.{near_within}
-use Rattle.ring_faults.proofs.Touches.{links_of_none, links_more, links_all}
+use Rattle.ring_faults.proofs.Touches.{IsBeforePlace, links_of_none, links_more, links_all}
 use Rattle.ring_faults.proofs.touch.links_of.Goals as goal
 
 pub add_touches-requires-clause-places : goal.add_touches-requires-clause-places
@@ -28,6 +28,7 @@ loop-i-preserved c =
 pub returns : goal.returns
 returns c =
     record {
-      links = subst (λ (edges : List PartEdge). AreLinksOfParts edges (λ e. Contains edges e) c.loop-i.links.items) c.in_ok-near.ensures.edges
+      links = subst (λ (edges : List PartEdge). AreLinksOfParts edges (λ e. Contains edges e) c.loop-i.links.items)
+          c.in_ok-near.ensures.edges
           (links_all c.in_ok-near.near.edges c.loop-i.i c.loop-i.links.items (omega arith) c.loop-i.invariant);
     }

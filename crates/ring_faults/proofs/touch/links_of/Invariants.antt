@@ -1,5 +1,6 @@
 -- The links of the edges so far with edges of earlier parts.
-use Rattle.ring_faults.specs.Touches.{AreLinksOfParts, IsBeforePlace}
+use Rattle.ring_faults.specs.Touches.{AreLinksOfParts}
+use Rattle.ring_faults.proofs.Touches.{IsBeforePlace}
 use Rattle.ring_faults.proofs.touch.links_of.Given as goal
 
 abbrev pub invariant-loop-i : goal.invariant-loop-i
