@@ -117,11 +117,10 @@ impl Fan {
         ensures inside { AreHandsAlike which self.now.sections → AreSided which self.now.sections
             → (IsTrue result ↔ IsSectorInside which self.now.sections self.now.rays i) }
     {
-        let count = self.rays.len();
-        if count == 0 {
+        if self.rays.is_empty() {
             return false;
         }
-        self.walk(which).inside[count + i]
+        self.walk(which).inside[self.rays.len() + i]
     }
 
     /// Whether a line of a figure runs along ray `i`.

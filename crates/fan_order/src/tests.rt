@@ -1,4 +1,4 @@
-ghost use Rattle.std.specs.Prelude.{◌≡◌, ◌↔◌, IsTrue, All};
+ghost use Rattle.std.specs.Prelude.{◌≡◌, ◌<◌, ◌↔◌, IsTrue, All};
 ghost use Rattle.plane_exact.specs.Directions.{IsWay};
 ghost use Rattle.fan_order.specs.Rays.{IsShort};
 
@@ -188,38 +188,39 @@ fn an_area_over_the_first_ray(rt: HostRuntime) -> Result<(), Fail> {
     Ok(())
 }
 
-/// Twelve narrow areas round a node, of the two figures in turn.
+/// The edges along a ray where one of twelve narrow areas begins and the one before it ends: those with even numbers are of the
+/// first figure.
+fn add_border(sections: &mut SectionList, dx: i64, dy: i64, area: u32) -> Result<(), Fail>
+    requires way { IsWay dx dy }
+    requires area { area < 12 }
+{
+    let (which, other) = if area % 2 == 0 {
+        (Which::A, Which::B)
+    } else {
+        (Which::B, Which::A)
+    };
+    sections.push(beside(dx, dy, Hand::Left, which, area))?;
+    sections.push(beside(dx, dy, Hand::Right, other, (area + 11) % 12))?;
+    Ok(())
+}
+
 #[test]
 fn many_areas_round_a_node(rt: HostRuntime) -> Result<(), Fail> {
-    let rays = [
-        (1, 0),
-        (2, 1),
-        (1, 2),
-        (0, 1),
-        (-1, 2),
-        (-2, 1),
-        (-1, 0),
-        (-2, -1),
-        (-1, -2),
-        (0, -1),
-        (1, -2),
-        (2, -1),
-    ];
     let mut sections = SectionList::new(rt.alloc());
-    for (i, (dx, dy)) in rays.iter().enumerate() {
-        let (which, other) = if i % 2 == 0 {
-            (Which::A, Which::B)
-        } else {
-            (Which::B, Which::A)
-        };
-        let ray = Dir { dx: *dx, dy: *dy };
-        let area = i as u32;
-        sections.push(edge(ray, Hand::Left, which, area))?;
-        sections.push(edge(ray, Hand::Right, other, (area + 11) % 12))?;
-    }
+    add_border(&mut sections, 1, 0, 0)?;
+    add_border(&mut sections, 2, 1, 1)?;
+    add_border(&mut sections, 1, 2, 2)?;
+    add_border(&mut sections, 0, 1, 3)?;
+    add_border(&mut sections, -1, 2, 4)?;
+    add_border(&mut sections, -2, 1, 5)?;
+    add_border(&mut sections, -1, 0, 6)?;
+    add_border(&mut sections, -2, -1, 7)?;
+    add_border(&mut sections, -1, -2, 8)?;
+    add_border(&mut sections, 0, -1, 9)?;
+    add_border(&mut sections, 1, -2, 10)?;
+    add_border(&mut sections, 2, -1, 11)?;
     assert!(rt; are_short(&sections));
     let fan = Fan::gather(rt.alloc(), &sections).ok().ok_or("no memory")?;
-    assert_rays(&rt, &fan, &rays);
     let even = [
         true, false, true, false, true, false, true, false, true, false, true, false,
     ];
