@@ -4,5 +4,6 @@ mod Entries
 mod Loops
 mod Overlaps
 mod RowPlaces
+mod Searches
 mod SectionLists
 mod SectorPlaces

@@ -4,7 +4,7 @@ use Rattle.std.specs.List.{All, Any}
 use Rattle.std.proofs.lemmas.List.{get_or_default}
 use Rattle.std.proofs.lemmas.Option.{slice_get-get_or}
 use Rattle.point_set.specs.Validity.{IsAtPlace}
-use Rattle.fan_order.proofs.Laws.{NoneBefore, none_more}
+use Rattle.area_entry.proofs.Searches.{NoneBefore, none_more}
 
 module _ {X : Type 0} {items : List X} (xs : List X) (same : items ≡ xs) (i : ℕ) (d : X) (below : i < length items) where
   -- it is the one at its place

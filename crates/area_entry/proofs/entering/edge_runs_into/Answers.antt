@@ -1,5 +1,5 @@
 use Rattle.std.proofs.Common.{◌≡◌, length, ap, refl, arith}
-use Rattle.fan_order.proofs.Laws.{none_all}
+use Rattle.area_entry.proofs.Searches.{none_all}
 use Rattle.area_entry.specs.Entries.{RunsOnFrom}
 use Rattle.area_entry.proofs.Bends.{not_so}
 use Rattle.area_entry.proofs.Entries.{from_row, some_row}

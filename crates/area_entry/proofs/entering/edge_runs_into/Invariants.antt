@@ -1,6 +1,6 @@
 -- None of the rows before has a point from which the edge runs on into the part.
 use Rattle.point_set.specs.declared.figure.Area.{Area}
-use Rattle.fan_order.proofs.Laws.{NoneBefore}
+use Rattle.area_entry.proofs.Searches.{NoneBefore}
 use Rattle.valid_laws.specs.Entering.{IsClean}
 use Rattle.area_entry.specs.Entries.{IsUnshared, RunsOnFrom}
 use Rattle.area_entry.specs.Grounds.{AreRowsOf}

@@ -1,7 +1,7 @@
 -- None of the ring's edges before runs on into the part.
 use Rattle.std.specs.List.{All}
 use Rattle.point_set.specs.declared.figure.Area.{Area}
-use Rattle.fan_order.proofs.Laws.{NoneBefore}
+use Rattle.area_entry.proofs.Searches.{NoneBefore}
 use Rattle.valid_laws.specs.Entering.{IsClean}
 use Rattle.area_entry.specs.Entries.{IsUnshared, RunsInto}
 use Rattle.area_entry.specs.Grounds.{AreRowsOf}
