@@ -3,6 +3,9 @@ ghost use Rattle.point_set.specs.Nodes.{IsNode};
 ghost use Rattle.node_table.specs.Tables.{with_sections, AreInOrder};
 ghost use Rattle.relate_core.specs.Tables.{IsTableOf, AddsEntryOf};
 
+#[cfg(test)]
+mod tests;
+
 use crate::node_sections::sections_at;
 use crate::nodes::nodes_of;
 use fan_order::{Section, SectionList};

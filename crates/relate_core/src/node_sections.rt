@@ -27,8 +27,9 @@ pub fn sections_at<T: Target>(
     ensures figure { T.figure t.new ≡ T.figure t.old }
     ensures looks { T.looks t.new ≡ T.looks t.old }
 {
+    let around = Window::round(n);
     let mut near = PlaceList::new(alloc);
-    t.edges_in(Window::round(n), &mut near)?;
+    t.edges_in(around, &mut near)?;
     for place in near.as_slice() {
         let edge = edge_at(t, *place);
         if on_segment(edge.seg, n) {
