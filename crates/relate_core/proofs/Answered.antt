@@ -1,11 +1,9 @@
 -- What a query answers that has taken in the samples at all nodes of two figures: its value on the sample matrix.
-use Rattle.std.proofs.Common.{◌≡◌, ◌≢◌, ◌≤◌, ◌⊎◌, inl, inr, ◌∙◌, refl, sym, subst, arith, Bool, List}
+use Rattle.std.proofs.Common.{◌≡◌, ◌≤◌, ◌⊎◌, inl, inr, ◌∙◌, refl, sym, subst, arith, Bool, List}
 use Rattle.std.proofs.lemmas.List.Elements.{All-contains}
 use Rattle.im_matrix.specs.Cells.{rank, dimension_at, start_dimension}
-use Rattle.im_matrix.proofs.Laws.{same_cells}
 use Rattle.im_matrix.specs.declared.Cell.{Cell}
 use Rattle.im_matrix.specs.declared.Dim.{Dim}
-use Rattle.im_matrix.specs.declared.Dim.TheVariants.{Empty, Zero, One, Two}
 use Rattle.im_matrix.specs.declared.Matrix.{Matrix}
 use Rattle.plane_exact.specs.NodePoints.{point_at}
 use Rattle.point_set.specs.declared.figure.Figure.{Figure}
@@ -13,6 +11,7 @@ use Rattle.point_set.specs.declared.rule.Rule.{Rule}
 use Rattle.point_set.specs.Nodes.{IsNode}
 use Rattle.point_set.specs.Samples.{IsSample, IsSampleMatrix}
 use Rattle.point_set.specs.Visible.{AreValid}
+use Rattle.cell_laws.proofs.Cells.Matrix.{one_sample_matrix}
 use Rattle.cell_laws.proofs.Samples.Same.{sample_same}
 use Rattle.node_table.specs.declared.entry.Entry.{Entry}
 use Rattle.topo_pred.specs.declared.Answer.TheVariants.{Im, Truth}
@@ -23,39 +22,6 @@ use Rattle.topo_pred.specs.Values.{value_of, value_at, matrix_of, IsSettled}
 use Rattle.relate_core.specs.Tables.{IsListed, IsTableOf}
 use Rattle.relate_core.specs.Taking.{HasTakenIn}
 use Rattle.relate_core.proofs.Taking.{answer_is}
-
--- ---- matrices by the ranks of their dimensions
--- dimensions of one rank are one
-same_rank : (d e : Dim) → rank d ≡ rank e → d ≡ e
-same_rank Empty Empty h = refl
-same_rank Zero Zero h = refl
-same_rank One One h = refl
-same_rank Two Two h = refl
-same_rank Empty Zero h = absurd (omega (arith, h))
-same_rank Empty One h = absurd (omega (arith, h))
-same_rank Empty Two h = absurd (omega (arith, h))
-same_rank Zero Empty h = absurd (omega (arith, h))
-same_rank Zero One h = absurd (omega (arith, h))
-same_rank Zero Two h = absurd (omega (arith, h))
-same_rank One Empty h = absurd (omega (arith, h))
-same_rank One Zero h = absurd (omega (arith, h))
-same_rank One Two h = absurd (omega (arith, h))
-same_rank Two Empty h = absurd (omega (arith, h))
-same_rank Two Zero h = absurd (omega (arith, h))
-same_rank Two One h = absurd (omega (arith, h))
-
--- each of two matrices is at least the other
-both_ways : (m n : Matrix) → ((c : Cell) → rank (dimension_at m c) ≤ rank (dimension_at n c))
-    → ((c : Cell) → rank (dimension_at n c) ≤ rank (dimension_at m c)) → m ≡ n
-both_ways m n up down =
-    same_cells m n (λ c. same_rank (dimension_at m c) (dimension_at n c) (let x = up c in let y = down c in omega (arith, x, y)))
-
--- a dimension is Empty or it isn't
-empty_or_not : (d : Dim) → (d ≡ Empty) ⊎ (d ≢ Empty)
-empty_or_not Empty = inl refl
-empty_or_not Zero = inr (λ e. cc)
-empty_or_not One = inr (λ e. cc)
-empty_or_not Two = inr (λ e. cc)
 
 -- ---- a table of all nodes
 module _ (a b : Figure) (valid : AreValid a b) (rule : Rule) (entries : List Entry) (table : IsTableOf (IsNode a b) a b entries) where
@@ -78,53 +44,36 @@ module _ (a b : Figure) (valid : AreValid a b) (rule : Rule) (entries : List Ent
       (value : (m : Matrix) → value_at fresh m ≡ value_of query dim_a dim_b m)
       (start : (c : Cell) → dimension_at (matrix_of fresh) c ≡ start_dimension c)
       (taken : HasTakenIn (IsSample (IsListed entries) a b rule) fresh last) where
-    -- its matrix is nowhere below the first one
-    start_below : (c : Cell) → rank (start_dimension c) ≤ rank (dimension_at (matrix_of last) c)
-    start_below c = subst (λ d. rank d ≤ rank (dimension_at (matrix_of last) c)) (start c) (taken.kept c)
-
     -- the value on a matrix
     value_on : (m : Matrix) → value_at last m ≡ value_of query dim_a dim_b m
     value_on m = taken.value m ∙ value m
 
-    -- ---- the sample matrix, where there is one
-    module _ (m : Matrix) (is : IsSampleMatrix a b rule m) where
-      -- is nowhere below the first one
-      base : (c : Cell) → rank (dimension_at (matrix_of fresh) c) ≤ rank (dimension_at m c)
-      base c = subst (λ d. rank d ≤ rank (dimension_at m c)) (sym (start c)) ((is c).most (start_dimension c) (inl refl))
+    -- with all samples taken in it has in each cell the greatest of what it began with and the samples at all nodes
+    all_taken : ((c : Cell) (d : Dim) → IsSample (IsListed entries) a b rule c d → rank d ≤ rank (dimension_at (matrix_of last) c))
+        → IsSampleMatrix a b rule (matrix_of last)
+    all_taken all = λ c. record { one = λ _. one c (taken.only c); most = λ e h. most c e h }
+      where
+        one : (c : Cell)
+            → (dimension_at (matrix_of last) c ≡ dimension_at (matrix_of fresh) c)
+            ⊎ IsSample (IsListed entries) a b rule c (dimension_at (matrix_of last) c)
+            → (dimension_at (matrix_of last) c ≡ start_dimension c) ⊎ IsSample (IsNode a b) a b rule c (dimension_at (matrix_of last) c)
+        one c (inl e) = inl (e ∙ start c)
+        one c (inr s) = inr (of_nodes c (dimension_at (matrix_of last) c) s)
 
-      -- nor below a sample at a listed point
-      most : (c : Cell) (d : Dim) → IsSample (IsListed entries) a b rule c d → rank d ≤ rank (dimension_at m c)
-      most c d s = (is c).most d (inr (of_nodes c d s))
+        most : (c : Cell) (e : Dim) → (e ≡ start_dimension c) ⊎ IsSample (IsNode a b) a b rule c e
+            → rank e ≤ rank (dimension_at (matrix_of last) c)
+        most c e (inl h) =
+            subst (λ d. rank d ≤ rank (dimension_at (matrix_of last) c)) (sym h)
+            (subst (λ d. rank d ≤ rank (dimension_at (matrix_of last) c)) (start c) (taken.kept c))
+        most c e (inr s) = all c e (of_listed c e s)
 
-      -- nor below the present one
-      present_below : (c : Cell)
-          → (dimension_at (matrix_of last) c ≡ dimension_at (matrix_of fresh) c)
-          ⊎ IsSample (IsListed entries) a b rule c (dimension_at (matrix_of last) c)
-          → rank (dimension_at (matrix_of last) c) ≤ rank (dimension_at m c)
-      present_below c (inl e) = subst (λ d. rank d ≤ rank (dimension_at m c)) (sym e) (base c)
-      present_below c (inr s) = most c (dimension_at (matrix_of last) c) s
-
-      -- which is not below it either where it has all samples
-      below_present : ((c : Cell) (d : Dim) → IsSample (IsListed entries) a b rule c d → rank d ≤ rank (dimension_at (matrix_of last) c))
-          → (c : Cell) → rank (dimension_at m c) ≤ rank (dimension_at (matrix_of last) c)
-      below_present all c = by_one (empty_or_not (dimension_at m c))
-        where
-          by_kind : (dimension_at m c ≡ start_dimension c) ⊎ IsSample (IsNode a b) a b rule c (dimension_at m c)
-              → rank (dimension_at m c) ≤ rank (dimension_at (matrix_of last) c)
-          by_kind (inl e) = subst (λ d. rank d ≤ rank (dimension_at (matrix_of last) c)) (sym e) (start_below c)
-          by_kind (inr s) = all c (dimension_at m c) (of_listed c (dimension_at m c) s)
-
-          by_one : (dimension_at m c ≡ Empty) ⊎ (dimension_at m c ≢ Empty)
-              → rank (dimension_at m c) ≤ rank (dimension_at (matrix_of last) c)
-          by_one (inl e) = subst (λ d. rank d ≤ rank (dimension_at (matrix_of last) c)) (sym e) (omega arith)
-          by_one (inr some) = by_kind ((is c).one some)
-
-      -- so what is answered is the value on it
-      pub value_is : value_at last (matrix_of last) ≡ value_of query dim_a dim_b m
-      value_is =
-          answer_is (IsSample (IsListed entries) a b rule) fresh last m taken base most
-          (λ all. both_ways m (matrix_of last) (below_present all) (λ c. present_below c (taken.only c)))
-          ∙ value_on m
+    -- what is answered is the value on each sample matrix
+    pub value_is : (m : Matrix) → IsSampleMatrix a b rule m → value_at last (matrix_of last) ≡ value_of query dim_a dim_b m
+    value_is m is =
+        answer_is (IsSample (IsListed entries) a b rule) fresh last m taken
+        (λ c. subst (λ d. rank d ≤ rank (dimension_at m c)) (sym (start c)) ((is c).most (start_dimension c) (inl refl)))
+        (λ c d s. (is c).most d (inr (of_nodes c d s)))
+        (λ all. one_sample_matrix (IsNode a b) a b rule m (matrix_of last) is (all_taken all)) ∙ value_on m
 
     -- ---- where the matrix itself is asked for
     module _ (asks : query ≡ Relate) where
@@ -136,22 +85,10 @@ module _ (a b : Figure) (valid : AreValid a b) (rule : Rule) (entries : List Ent
       pub matrix_is : IsSampleMatrix a b rule (matrix_of last)
       matrix_is = by_whole taken.whole
         where
-          one : (c : Cell)
-              → (dimension_at (matrix_of last) c ≡ dimension_at (matrix_of fresh) c)
-              ⊎ IsSample (IsListed entries) a b rule c (dimension_at (matrix_of last) c)
-              → (dimension_at (matrix_of last) c ≡ start_dimension c) ⊎ IsSample (IsNode a b) a b rule c (dimension_at (matrix_of last) c)
-          one c (inl e) = inl (e ∙ start c)
-          one c (inr s) = inr (of_nodes c (dimension_at (matrix_of last) c) s)
-
           by_whole : ((v : Bool) × IsSettled last v)
               ⊎ ((c : Cell) (d : Dim) → IsSample (IsListed entries) a b rule c d → rank d ≤ rank (dimension_at (matrix_of last) c))
               → IsSampleMatrix a b rule (matrix_of last)
           by_whole (inl s) =
               let settled : Im (matrix_of last) ≡ Truth s.0 = sym answer_is_matrix ∙ s.1 (matrix_of last) (λ c. omega arith) in
               cc
-          by_whole (inr all) = λ c. record { one = λ _. one c (taken.only c); most = λ e h. most c e h }
-            where
-              most : (c : Cell) (e : Dim) → (e ≡ start_dimension c) ⊎ IsSample (IsNode a b) a b rule c e
-                  → rank e ≤ rank (dimension_at (matrix_of last) c)
-              most c e (inl h) = subst (λ d. rank d ≤ rank (dimension_at (matrix_of last) c)) (sym h) (start_below c)
-              most c e (inr s) = all c e (of_listed c e s)
+          by_whole (inr all) = all_taken all

@@ -1,5 +1,5 @@
 -- What the samples at a point are: the germs along its edge directions, and those along some direction of each of its sectors.
-use Rattle.std.proofs.Common.{◌≡◌, ◌⊎◌, inl, inr, ℕ, ◌<◌, List}
+use Rattle.std.proofs.Common.{◌⊎◌, inl, inr, ℕ, ◌<◌, List}
 use Rattle.im_matrix.specs.declared.Cell.{Cell}
 use Rattle.im_matrix.specs.declared.Dim.TheVariants.{One, Two}
 use Rattle.plane_laws.specs.Plane.{Point}
@@ -64,7 +64,9 @@ module _ (a b : Figure) (valid : AreValid a b) (rule : Rule) (v : Point) (rays :
         sector = h.below;
         middle = k.m;
         middle_is = k.is;
-        germ = (sector_is_one a b valid rule v rays are.rays_at h.i h.below h.d k.m h.within (middle_in_sector rays h.i k.m k.is) c h.germ).0;
+        germ =
+            (sector_is_one a b valid rule v rays are.rays_at h.i h.below h.d k.m h.within (middle_in_sector rays h.i k.m k.is) c
+            h.germ).0;
       }
 
   -- each of these is one
@@ -73,5 +75,6 @@ module _ (a b : Figure) (valid : AreValid a b) (rule : Rule) (v : Point) (rays :
     where
       by_case : RunsFrom v (segs_of_both a b) s.middle ⊎ HasSector rays s.middle → IsInSomeSector c
       by_case (inl run) =
-          absurd (sector_free v (segs_of_both a b) s.rays s.rays_are.rays_at s.i s.middle (middle_in_sector s.rays s.i s.middle s.middle_is) run)
+          absurd (sector_free v (segs_of_both a b) s.rays s.rays_are.rays_at s.i s.middle
+          (middle_in_sector s.rays s.i s.middle s.middle_is) run)
       by_case (inr k) = record { i = k.i; below = k.below; d = s.middle; within = k.within; germ = s.germ }

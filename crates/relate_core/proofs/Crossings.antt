@@ -1,5 +1,5 @@
 -- Where two edges have one common point alone: what a test of two edges says, and the edges that a pass over the places near an edge finds.
-use Rattle.std.proofs.Common.{◌≡◌, ◌⊎◌, inl, inr, ℕ, ◌≤◌, List, [], length, get_or, ap, refl, sym, ◌∙◌, subst, arith}
+use Rattle.std.proofs.Common.{◌≡◌, ℕ, List, [], refl, sym, ◌∙◌, subst}
 use Rattle.std.proofs.lemmas.Option.{slice_get-get_or}
 use Rattle.plane_laws.proofs.Points.Order.{compare_points_same}
 use Rattle.plane_laws.proofs.Points.Same.{same_refl, same_sym, same_trans}
@@ -9,7 +9,6 @@ use Rattle.plane_exact.specs.NodePoints.{point_at}
 use Rattle.plane_exact.specs.Places.{point_of}
 use Rattle.plane_exact.specs.Windows.{IsLeastWindow}
 use Rattle.plane_exact.specs.declared.node.Node.{Node}
-use Rattle.plane_exact.specs.declared.point.Pt.{Pt}
 use Rattle.plane_exact.specs.declared.point.Seg.{Seg}
 use Rattle.plane_exact.specs.declared.window.Window.{Window}
 use Rattle.point_set.specs.declared.figure.Figure.{Figure}
@@ -19,11 +18,11 @@ use Rattle.point_set.specs.Validity.{IsAtPlace, IsOnEdge}
 use Rattle.figure_laws.proofs.Lists.Places.{some_same}
 use Rattle.node_table.specs.Tables.{with_sections}
 use Rattle.node_table.specs.declared.entry.Entry.{Entry}
-use Rattle.seg_cross.specs.Meets.{IsMeet, IsOverlap}
+use Rattle.seg_cross.specs.Meets.{IsMeet}
 use Rattle.seg_cross.specs.declared.answer.Meet.{Meet}
 use Rattle.seg_cross.specs.declared.answer.Meet.TheVariants.{Apart, At, Along}
 use Rattle.relate_core.specs.NodeSets.{AddsNodes, IsOfSome, CrossesOne}
-use Rattle.relate_core.proofs.FigureEdges.{HasPlaceIn, HasEdgeAt, edge_of_seg, seg_at, near_place}
+use Rattle.relate_core.proofs.FigureEdges.{HasEdgeAt, edge_of_seg, seg_at, near_place}
 use Rattle.relate_core.proofs.Sets.{adds_none, adds_node, adds_same}
 
 -- ---- the only common point of two edges

@@ -1,5 +1,5 @@
 -- Taking in dimensions of cells: some and then others, one alone, and what is answered in the end.
-use Rattle.std.proofs.Common.{◌≡◌, ◌≤◌, ◌⊎◌, inl, inr, ◌∙◌, ap, refl, sym, subst, arith, Bool, true, Option, Some, None}
+use Rattle.std.proofs.Common.{◌≡◌, ◌≤◌, ◌⊎◌, inl, inr, ◌∙◌, refl, sym, subst, arith, Bool, true, Option, Some, None}
 use Rattle.std.proofs.lemmas.Bool.{true≢false}
 use Rattle.std.specs.Option.{is_some}
 use Rattle.im_matrix.specs.Cells.{rank, greater, dimension_at}

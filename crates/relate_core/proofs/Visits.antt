@@ -1,8 +1,8 @@
 -- What the steps of the loop over a table, over the rays of a node and over its sectors take in.
-use Rattle.std.proofs.Common.{◌≡◌, ◌⊎◌, inl, inr, ℕ, ◌+◌, ◌<◌, ◌≤◌, List, [], ◌∷◌, length, refl, sym, ◌∙◌, subst, subst₂, arith}
+use Rattle.std.proofs.Common.{◌≡◌, ◌⊎◌, inl, inr, ℕ, ◌+◌, ◌<◌, ◌≤◌, List, [], ◌∷◌, length, refl, sym, subst, arith}
 use Rattle.std.specs.List.{All}
 use Rattle.std.proofs.lemmas.Bool.{cases_lt}
-use Rattle.std.proofs.lemmas.List.Elements.{All-head, All-tail}
+use Rattle.std.proofs.lemmas.List.Elements.{All-tail}
 use Rattle.std.proofs.lemmas.Option.{slice_get_within}
 use Rattle.im_matrix.specs.declared.Cell.{Cell}
 use Rattle.im_matrix.specs.declared.Dim.{Dim}
@@ -24,7 +24,6 @@ use Rattle.point_set.specs.Validity.{IsAtPlace}
 use Rattle.point_set.specs.Visible.{AreValid}
 use Rattle.figure_laws.proofs.Points.Kinds.{one_part}
 use Rattle.figure_laws.proofs.Lists.Search.{any_left, any_right}
-use Rattle.figure_laws.proofs.Lists.Places.{some_same}
 use Rattle.germ_laws.proofs.Rays.Places.{HasItem, item_at}
 use Rattle.ring_laws.proofs.Germs.Areas.{pair_germ_one}
 use Rattle.cell_laws.proofs.Directions.Middles.{middle_in_sector, HasMiddle, middle_of}
@@ -214,7 +213,8 @@ pub taken_at : (a b : Figure) (rule : Rule) (v : Point) (here : Cell) → IsInCe
     → HasTakenIn (IsSampleAt a b rule v) p s
 taken_at a b rule v here held p q r s h k l =
     taken_together (IsHereOrAlong a b rule v here) (IsSampleOf Two a b rule v) (IsSampleAt a b rule v) below_is two either p r s
-    (taken_together (IsOne here Zero) (IsSampleOf One a b rule v) (IsHereOrAlong a b rule v here) (λ c d x. inl x) (λ c d x. inr x) (λ c d x. x) p q r h k) l
+    (taken_together (IsOne here Zero) (IsSampleOf One a b rule v) (IsHereOrAlong a b rule v here) (λ c d x. inl x) (λ c d x. inr x)
+    (λ c d x. x) p q r h k) l
   where
     alone : (c : Cell) → IsInCell a b rule c v → c ≡ here
     alone c x = λ i. record { a = one_part x.in_a held.in_a i; b = one_part x.in_b held.in_b i }

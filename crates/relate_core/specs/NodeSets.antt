@@ -1,6 +1,6 @@
 -- Sets of points that are put into a table of nodes.
-use Rattle.std.specs.Prelude.{◌≡◌, ℕ, true, ◌⊎◌, List, [], ◌∷◌}
-use Rattle.std.specs.List.{All, Any}
+use Rattle.std.specs.Prelude.{◌≡◌, ℕ, ◌⊎◌, List}
+use Rattle.std.specs.List.{All}
 use Rattle.plane_laws.specs.Plane.{Point, IsSamePoint}
 use Rattle.plane_exact.specs.Places.{IsInLimit, point_of}
 use Rattle.plane_exact.specs.declared.point.Pt.{Pt}

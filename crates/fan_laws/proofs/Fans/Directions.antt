@@ -1,5 +1,5 @@
 -- The rays of all sections of two figures at a point are the edge directions of both figures there.
-use Rattle.std.proofs.Common.{◌≡◌, ◌⊎◌, inl, inr, ℕ, Bool, true, false, List, ◌++◌, refl}
+use Rattle.std.proofs.Common.{◌≡◌, ◌⊎◌, inl, inr, Bool, true, false, List, refl}
 use Rattle.std.specs.List.{Any, Contains}
 use Rattle.std.proofs.lemmas.List.Elements.{All-contains, All-weaker}
 use Rattle.im_matrix.specs.declared.Which.{Which}
@@ -17,7 +17,6 @@ use Rattle.point_set.specs.Edges.{edges_of_figure, far_end}
 use Rattle.point_set.specs.Nodes.{segs_of, segs_of_both, RunsFrom, AreEdgeDirections}
 use Rattle.point_set.specs.Rings.{is_on_edge}
 use Rattle.point_set.specs.Sectors.{AreRaysAt, IsLowest}
-use Rattle.point_set.specs.Validity.{IsAtPlace}
 use Rattle.figure_laws.proofs.Lists.Items.{each_both, some_left, some_right}
 use Rattle.figure_laws.proofs.Lists.Least.{SomeItem}
 use Rattle.germ_laws.proofs.Rays.Ways.{place_of_seg}

@@ -1,4 +1,4 @@
-use Rattle.std.proofs.Common.{◌≡◌, List, ℕ, ◌∙◌, refl, sym, subst, arith}
+use Rattle.std.proofs.Common.{List, ℕ, ◌∙◌, refl, sym, subst, arith}
 use Rattle.point_set.specs.declared.figure.Figure.{Figure}
 use Rattle.point_set.specs.Edges.{edges_of_figure, ArePlacesIn}
 use Rattle.point_set.specs.Shape.{IsWellShaped}

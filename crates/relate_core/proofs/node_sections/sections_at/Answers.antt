@@ -1,6 +1,5 @@
-use Rattle.std.proofs.Common.{◌≡◌, ◌+◌, List, [], ℕ, length, append-nil, ap, sym, ◌∙◌, subst, arith}
+use Rattle.std.proofs.Common.{◌+◌, List, [], ℕ, append-nil, sym, ◌∙◌, subst, arith}
 use Rattle.plane_exact.specs.NodePoints.{point_at}
-use Rattle.plane_laws.specs.Plane.{Point}
 use Rattle.point_set.specs.declared.figure.Figure.{Figure}
 use Rattle.point_set.specs.Edges.{edges_of_figure, ArePlacesIn}
 use Rattle.fan_order.specs.declared.section.Section.{Section}

@@ -1,4 +1,4 @@
-use Rattle.std.proofs.Common.{◌≡◌, ◌∙◌, ap, length, arith}
+use Rattle.std.proofs.Common.{◌∙◌, ap, length, arith}
 use Rattle.point_set.specs.Nodes.{segs_of}
 use Rattle.relate_core.specs.NodeSets.{CrossesOne}
 use Rattle.relate_core.proofs.Passes.{crossings_next}

@@ -1,4 +1,4 @@
-use Rattle.std.proofs.Common.{◌≡◌, ◌+◌, List, ℕ, get_or, ◌∙◌, ap, sym, length, subst, arith}
+use Rattle.std.proofs.Common.{◌+◌, List, ℕ, get_or, sym, subst, arith}
 use Rattle.point_set.specs.declared.figure.Figure.{Figure}
 use Rattle.point_set.specs.Edges.{OwnedEdge, edges_of_figure, ArePlacesIn}
 use Rattle.point_set.specs.Nodes.{segs_of}

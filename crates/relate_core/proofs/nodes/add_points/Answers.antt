@@ -1,4 +1,4 @@
-use Rattle.std.proofs.Common.{◌∙◌, ap, length, arith}
+use Rattle.std.proofs.Common.{ap, length, arith}
 use Rattle.relate_core.specs.NodeSets.{IsAtPosition}
 use Rattle.relate_core.proofs.Passes.{position_next}
 use Rattle.relate_core.proofs.Sets.{adds_all}

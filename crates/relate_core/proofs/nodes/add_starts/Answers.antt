@@ -1,4 +1,4 @@
-use Rattle.std.proofs.Common.{◌≡◌, ◌+◌, List, ◌∙◌, ap, sym, length, subst, arith}
+use Rattle.std.proofs.Common.{◌+◌, List, ◌∙◌, ap, sym, length, subst, arith}
 use Rattle.std.specs.Option.{option_copied}
 use Rattle.std.specs.Prelude.{slice_get}
 use Rattle.figure_laws.proofs.Lists.Places.{read_at}

@@ -1,4 +1,4 @@
-use Rattle.std.proofs.Common.{◌≡◌, ◌∙◌, ap, not, Bool}
+use Rattle.std.proofs.Common.{◌∙◌, ap, not}
 use Rattle.relate_core.specs.Taking.{IsOne}
 use Rattle.relate_core.proofs.Taking.{taken_one, taken_where_known}
 use Rattle.relate_core.proofs.samples.take_in_cell.Goals as goal

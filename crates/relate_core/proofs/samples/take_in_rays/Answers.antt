@@ -10,8 +10,8 @@ loop-i-init c = λ a b rule v seen. along_none a b rule v c.args.fan.now.rays c.
 
 pub loop-i-preserved : goal.loop-i-preserved
 loop-i-preserved c = λ a b rule v seen.
-    along_more a b rule v c.args.fan.now.rays c.loop-i.i (let count = c.rays-i-end.ensures.length in omega (arith, count, c.loop-i-test.true))
-    c.cell_of.result
+    along_more a b rule v c.args.fan.now.rays c.loop-i.i
+    (let count = c.rays-i-end.ensures.length in omega (arith, count, c.loop-i-test.true)) c.cell_of.result
     (λ ray ray_is.
     subst (λ z. IsPairGerm a b rule v (direction_of ray) z) (sym c.cell_of.ensures.cell)
     (c.label_ray.ensures.germ a b rule v seen ray ray_is))

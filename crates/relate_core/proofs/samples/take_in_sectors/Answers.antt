@@ -9,8 +9,8 @@ loop-i-init c = λ a b rule v seen. within_none a b rule v c.args.fan.now.rays c
 
 pub loop-i-preserved : goal.loop-i-preserved
 loop-i-preserved c = λ a b rule v seen.
-    within_more a b rule v c.args.fan.now.rays c.loop-i.i (let count = c.sectors-i-end.ensures.sectors in omega (arith, count, c.loop-i-test.true))
-    c.cell_of.result
+    within_more a b rule v c.args.fan.now.rays c.loop-i.i
+    (let count = c.sectors-i-end.ensures.sectors in omega (arith, count, c.loop-i-test.true)) c.cell_of.result
     (λ d in_d.
     subst (λ z. IsPairGerm a b rule v d z) (sym c.cell_of.ensures.cell)
     (c.label_sector.ensures.germ a b rule v seen d in_d))
