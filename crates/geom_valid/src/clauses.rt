@@ -2,9 +2,9 @@ ghost use Rattle.std.specs.Prelude.{◌↔◌, IfOk, IsTrue};
 ghost use Rattle.point_set.specs.Shape.{IsAreaShaped};
 ghost use Rattle.point_set.specs.Validity.{CrossesItself, HasTooFewPoints, SomeRing};
 
-use ring_faults::{crosses_itself, has_too_few};
 use plane_exact::NoMemory;
 use point_set::Area;
+use ring_faults::{crosses_itself, has_too_few};
 use std::alloc::Global;
 
 /// Whether a ring of an area has fewer than three distinct positions. Takes no memory.

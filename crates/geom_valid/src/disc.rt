@@ -1,5 +1,5 @@
-use area_entry::enters;
 use crate::rows::ring_rows;
+use area_entry::enters;
 use area_locator::ring_locate;
 use im_matrix::Loc;
 use plane_exact::{NoMemory, Node, Path};

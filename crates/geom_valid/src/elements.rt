@@ -5,10 +5,10 @@ ghost use Rattle.point_set.specs.Shape.{IsWellShaped};
 ghost use Rattle.point_set.specs.Validity.{AreasOverlap, AreasShareSegment, IsAtPlace, SomeEarlier};
 
 use crate::ring_set::RingSet;
-use ring_faults::areas_share;
 use crate::sound_area::SoundArea;
 use plane_exact::NoMemory;
 use point_set::{Area, Figure};
+use ring_faults::areas_share;
 use std::alloc::Global;
 
 /// Whether the area at a place has a common segment with an earlier one of its group.

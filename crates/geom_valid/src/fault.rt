@@ -4,14 +4,13 @@ ghost use Rattle.point_set.specs.Shape.{IsWellShaped};
 ghost use Rattle.point_set.specs.Validity.{IsValid};
 
 use crate::clauses::{has_ring_that_crosses, has_ring_with_too_few};
-use ring_faults::has_cycle;
 use crate::elements::{overlaps_earlier, shares_with_earlier};
 use crate::kinds::{Fault, InvalidKind};
-use ring_faults::rings_share;
-use crate::sound_area::SoundArea;
 use crate::ring_set::RingSet;
+use crate::sound_area::SoundArea;
 use plane_exact::NoMemory;
 use point_set::Figure;
+use ring_faults::{has_cycle, rings_share};
 use std::alloc::Global;
 
 /// The first fault of a figure, or None where it is valid.

@@ -6,10 +6,10 @@ mod clauses;
 mod disc;
 mod elements;
 mod fault;
-mod sound_area;
 mod kinds;
 mod ring_set;
 mod rows;
+mod sound_area;
 
 pub use admission::admit;
 pub use kinds::{AdmitFault, InvalidKind};

@@ -1,7 +1,7 @@
 use crate::disc::Disc;
-use area_entry::enters;
 use crate::ring_set::RingSet;
 use crate::rows::area_rows;
+use area_entry::enters;
 use area_locator::locate_plain;
 use im_matrix::Loc;
 use plane_exact::NoMemory;

@@ -35,11 +35,13 @@ returns-then-branch c =
     let own : c.at.result.now ≡ area
     = some_same (sym (read_at areas areas c.args.place c.at.result.now refl c.requires.place c.at.ensures.item) ∙ c.requires.area) in
     let same = ap (λ (a : Area). a.group) (sym own) ∙ c.if-group-other.true in
-    record { overlap = (
-      λ _. earlier_at c.args.f.now c.args.place c.loop-before.before area other AreasOverlap c.loop-before-test.true c.requires.area at same
-          (c.in_ok-overlaps_area.ensures.overlap.0 c.if-branch.true),
-      λ _. refl,
-    ) }
+    record {
+      overlap = (
+        λ _. earlier_at c.args.f.now c.args.place c.loop-before.before area other AreasOverlap c.loop-before-test.true c.requires.area at same
+            (c.in_ok-overlaps_area.ensures.overlap.0 c.if-branch.true),
+        λ _. refl,
+      );
+    }
 
 pub loop-before-preserved : goal.loop-before-preserved
 loop-before-preserved c =
@@ -59,7 +61,9 @@ returns c =
     = some_same (sym (read_at areas areas c.args.place c.at.result.now refl c.requires.place c.at.ensures.item) ∙ c.requires.area) in
     let none : NoneBefore (λ (x : Area). (area.group ≡ x.group) × AreasOverlap area x) areas c.loop-before.before
     = λ k x below is h. c.loop-before.invariant k x below is (ap (λ (a : Area). a.group) own ∙ h.0, h.1) in
-    record { overlap = (
-      λ e. absurd (false≢true e),
-      λ h. absurd (no_earlier c.args.f.now c.args.place area AreasOverlap c.requires.area c.loop-before.before c.loop-before-test.false none h),
-    ) }
+    record {
+      overlap = (
+        λ e. absurd (false≢true e),
+        λ h. absurd (no_earlier c.args.f.now c.args.place area AreasOverlap c.requires.area c.loop-before.before c.loop-before-test.false none h),
+      );
+    }

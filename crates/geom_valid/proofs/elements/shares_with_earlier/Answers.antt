@@ -23,7 +23,9 @@ returns c =
     let areas = c.args.f.now.areas in
     let area = c.at-area.result.now in
     let at = read_at areas areas c.args.place area refl c.requires.place c.at-area.ensures.item in
-    record { share = (
-      λ e. absurd (false≢true e),
-      λ h. absurd (no_earlier c.args.f.now c.args.place area AreasShareSegment at c.loop-before.before c.loop-before-test.false c.loop-before.invariant h),
-    ) }
+    record {
+      share = (
+        λ e. absurd (false≢true e),
+        λ h. absurd (no_earlier c.args.f.now c.args.place area AreasShareSegment at c.loop-before.before c.loop-before-test.false c.loop-before.invariant h),
+      );
+    }

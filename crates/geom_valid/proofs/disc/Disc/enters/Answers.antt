@@ -21,8 +21,8 @@ returns c =
     let its : IsDisc other c.other.inside.rows = subst (λ (r : List Pt). IsDisc r c.other.inside.rows) c.other.view_is c.other.invariant in
     let located : c.ring_locate-first.result ≡ location (disc_of other) (point_at c.start.result)
     = c.ring_locate-first.ensures.location
-        ∙ ap (λ (r : List Pt). location_by (is_on_edges (point_at c.start.result) (edges_of r)) (is_inside (point_at c.start.result) r) false) c.other.view_is
-        ∙ sym (disc_location (point_at c.start.result) other) in
+    ∙ ap (λ (r : List Pt). location_by (is_on_edges (point_at c.start.result) (edges_of r)) (is_inside (point_at c.start.result) r) false) c.other.view_is
+    ∙ sym (disc_location (point_at c.start.result) other) in
     let unshared : ¬ EdgesShareSegment (edges_of ring) (edges_in (disc_of other))
     = subst (λ (es : List Seg). ¬ EdgesShareSegment (edges_of ring) es) (sym (disc_edges other)) c.requires.unshared in
     let begins : BeginsIn ring (disc_of other) c.ring_locate-first.result

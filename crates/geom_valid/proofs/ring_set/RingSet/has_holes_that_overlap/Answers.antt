@@ -14,7 +14,9 @@ returns c =
     let area = c.args.self.now in
     let own : c.self.inside.holes ≡ area.holes = c.self.invariant.1 ∙ ap (λ (a : Area). a.holes) c.self.view_is in
     let count = c.len-place-end.ensures.length ∙ ap (λ (xs : List (List Pt)). length xs) own in
-    record { overlap = (
-      λ e. absurd (false≢true e),
-      λ h. absurd (no_holes_overlap area (λ place some. c.loop-place.invariant place (omega (arith, hole_within area.holes place some, count, c.loop-place-test.false)) some) h),
-    ) }
+    record {
+      overlap = (
+        λ e. absurd (false≢true e),
+        λ h. absurd (no_holes_overlap area (λ place some. c.loop-place.invariant place (omega (arith, hole_within area.holes place some, count, c.loop-place-test.false)) some) h),
+      );
+    }

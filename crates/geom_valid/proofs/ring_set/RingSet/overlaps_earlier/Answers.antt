@@ -56,7 +56,9 @@ returns c =
     let own : c.self.inside.holes ≡ holes = c.self.invariant.1 ∙ ap (λ (a : Area). a.holes) c.self.view_is in
     let below : c.args.place < length c.self.inside.holes = subst (λ (xs : List (List Pt)). c.args.place < length xs) (sym own) c.requires.place in
     let hole = read_at c.self.inside.holes holes c.args.place c.at-hole.result.now own below c.at-hole.ensures.item in
-    record { overlap = (
-      λ e. absurd (false≢true e),
-      λ h. absurd (no_earlier_hole holes c.args.place c.at-hole.result.now hole c.loop-earlier.earlier c.loop-earlier-test.false c.loop-earlier.invariant h),
-    ) }
+    record {
+      overlap = (
+        λ e. absurd (false≢true e),
+        λ h. absurd (no_earlier_hole holes c.args.place c.at-hole.result.now hole c.loop-earlier.earlier c.loop-earlier-test.false c.loop-earlier.invariant h),
+      );
+    }

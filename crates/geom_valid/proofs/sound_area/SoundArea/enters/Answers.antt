@@ -68,7 +68,7 @@ returns c =
     let holes : c.holes-hole-items.result.now ≡ area.holes = c.holes-hole-items.ensures.holes ∙ ap (λ (a : Area). a.holes) c.self.view_is in
     let not_shell : ¬ Enters (edges_of area.shell) other Interior
     = λ h. false≢true (sym c.if-branch.false ∙ c.in_ok-holds_part_of.ensures.holds.1
-        (subst (λ (ring : List Pt). Enters (edges_of ring) other Interior) (sym shell) h)) in
+    (subst (λ (ring : List Pt). Enters (edges_of ring) other Interior) (sym shell) h)) in
     let none = none_at_last (λ (ring : List Pt). Enters (edges_of ring) other Interior) c.holes-hole-items.result.now c.loop-hole.hole-index c.loop-hole.invariant c.loop-hole-test.false in
     let not_holes : (i : ℕ) (hole : List Pt) → IsAtPlace area.holes i hole → ¬ Enters (edges_of hole) other Interior
     = λ i hole is. none i hole (subst (λ (xs : List (List Pt)). IsAtPlace xs i hole) (sym holes) is) in
