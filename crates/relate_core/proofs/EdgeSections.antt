@@ -60,6 +60,7 @@ module _ (which : Which) (f : Figure) (v : Point) where
   none_toward : (edge : OwnedEdge) → ¬ IsOnEdge edge.seg v → (forward : Bool) → AreTowardEnd which f v edge forward []
   none_toward edge off forward = record { one = λ on away. absurd (off on); none_at_end = λ _. refl; none_off = λ _. refl }
 
+  -- towards neither end
   pub none_of_edge : (edge : OwnedEdge) → ¬ IsOnEdge edge.seg v → AreOfEdge which f v edge []
   none_of_edge edge off = record {
     ahead = [];
@@ -88,11 +89,13 @@ module _ (which : Which) (f : Figure) (v : Point) where
       → AreOfEdges which f v (take k edges) more → AreOfEdge which f v edge last → AreOfEdges which f v (take (k + 1) edges) (more ++ last)
   first_edges edges k edge is more last h here =
       subst (λ (xs : List OwnedEdge). AreOfEdges which f v xs (more ++ last))
-      (sym (take_more edges k edge (slice_get_within edges k edge is) ∙ ap (λ (x : OwnedEdge). take k edges ++ x ∷ []) (get_or_from_slice_get edges k edge edge is)))
+      (sym (take_more edges k edge (slice_get_within edges k edge is)
+      ∙ ap (λ (x : OwnedEdge). take k edges ++ x ∷ []) (get_or_from_slice_get edges k edge edge is)))
       (one_edge (take k edges) edge more last h here)
 
   -- and some more that don't hold v
-  first_off : (edges : List OwnedEdge) (k j : ℕ) → ((q : ℕ) (edge : OwnedEdge) → k ≤ q → q < k + j → IsAtPlace edges q edge → ¬ IsOnEdge edge.seg v)
+  first_off : (edges : List OwnedEdge) (k j : ℕ)
+      → ((q : ℕ) (edge : OwnedEdge) → k ≤ q → q < k + j → IsAtPlace edges q edge → ¬ IsOnEdge edge.seg v)
       → (more : List Section) → AreOfEdges which f v (take k edges) more → AreOfEdges which f v (take (k + j) edges) more
   first_off edges k zero off more h = subst (λ (n : ℕ). AreOfEdges which f v (take n edges) more) (omega arith) h
   first_off edges k (suc j) off more h =
@@ -215,7 +218,8 @@ module _ (which : Which) (f : Figure) (v : Point) where
             subst (λ (edges : List OwnedEdge). AreOfEdges which f v edges h.more)
             (take_all (h.next + (count - h.next)) (edges_of_figure f) (omega arith))
             (first_off (edges_of_figure f) h.next (count - h.next)
-            (λ q z from below at. passed_over (h.next + (count - h.next)) (λ i later within. absurd (omega (arith, past, later, within))) q z from below at)
+            (λ q z from below at.
+            passed_over (h.next + (count - h.next)) (λ i later within. absurd (omega (arith, past, later, within))) q z from below at)
             h.more h.are)
 
   -- ---- what they are
@@ -244,6 +248,7 @@ module _ (which : Which) (f : Figure) (v : Point) where
       go (inl on) = by_end on (is_same_point end v) refl
       go (inr off) = none (h.none_off off)
 
+  -- of edges in a row
   only_of_edges : (edges : List OwnedEdge) → Each (HasPlace (edges_of_figure f)) edges → (sections : List Section)
       → AreOfEdges which f v edges sections → All (IsSectionAt which f v) sections
   only_of_edges [] places sections h =
@@ -257,6 +262,7 @@ module _ (which : Which) (f : Figure) (v : Point) where
       (only_toward p.place edge p.is false first.back first.are_back))
       (only_of_edges edges (λ i z is. places (suc i) z is) h.1 h.4))
 
+  -- so it is with those of all edges
   pub each_only : (sections : List Section) → AreEachOnce which f v sections → All (IsSectionAt which f v) sections
   each_only sections h = only_of_edges (edges_of_figure f) (λ i edge is. record { place = i; is = is }) sections h
 
@@ -267,6 +273,7 @@ module _ (which : Which) (f : Figure) (v : Point) where
       let one = h.one on away in
       subst (λ (xs : List Section). Any (IsSectionToward which f edge forward) xs) (sym one.1) (0, one.0, omega arith, refl, one.2)
 
+  -- among those of the edge
   any_of_edge : (edge : OwnedEdge) → IsOnEdge edge.seg v → (forward : Bool) → ¬ IsSamePoint (point_of (far_end forward edge.seg)) v
       → (sections : List Section) → AreOfEdge which f v edge sections → Any (IsSectionToward which f edge forward) sections
   any_of_edge edge on true away sections h =
@@ -276,6 +283,7 @@ module _ (which : Which) (f : Figure) (v : Point) where
       subst (λ (xs : List Section). Any (IsSectionToward which f edge false) xs) (sym h.parts)
       (any_right (IsSectionToward which f edge false) h.ahead h.back (any_toward edge on false away h.back h.are_back))
 
+  -- among those of edges in a row
   whole_of_edges : (edges : List OwnedEdge) (place : ℕ) (edge : OwnedEdge) → IsAtPlace edges place edge → IsOnEdge edge.seg v
       → (forward : Bool) → ¬ IsSamePoint (point_of (far_end forward edge.seg)) v → (sections : List Section)
       → AreOfEdges which f v edges sections → Any (IsSectionToward which f edge forward) sections
@@ -288,6 +296,7 @@ module _ (which : Which) (f : Figure) (v : Point) where
       subst (λ (xs : List Section). Any (IsSectionToward which f edge forward) xs) (sym h.2)
       (any_right (IsSectionToward which f edge forward) h.0 h.1 (whole_of_edges edges place edge is on forward away h.1 h.4))
 
+  -- so all edges have theirs
   pub each_whole : (sections : List Section) → AreEachOnce which f v sections → (place : ℕ) (edge : OwnedEdge)
       → IsAtPlace (edges_of_figure f) place edge → IsOnEdge edge.seg v → (forward : Bool)
       → ¬ IsSamePoint (point_of (far_end forward edge.seg)) v → Any (IsSectionToward which f edge forward) sections
@@ -295,6 +304,7 @@ module _ (which : Which) (f : Figure) (v : Point) where
       whole_of_edges (edges_of_figure f) place edge is on forward away sections h
 
 -- ---- of two figures
+-- sections of the first figure, and then of the second, are those of both
 pub both_sections : (a b : Figure) (n : Node) (mid new : List Section) → AddsSectionsAt A a (point_at n) [] mid
     → AddsSectionsAt B b (point_at n) mid new → All (λ s. IsShort s.dir) new → HasItsSections a b (entry n new)
 both_sections a b n mid new h k short = record {

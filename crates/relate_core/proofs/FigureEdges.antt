@@ -32,11 +32,13 @@ use Rattle.relate_core.specs.NodeSets.{HasTwoEnds, AreEdgesOf}
 
 -- ---- an edge at a place
 -- the edges of a well shaped figure have two different ends within the limit
-pub two_ends_at : (f : Figure) (place : ℕ) (edge : OwnedEdge) → IsWellShaped f → IsAtPlace (edges_of_figure f) place edge → HasTwoEnds edge.seg
+pub two_ends_at : (f : Figure) (place : ℕ) (edge : OwnedEdge) → IsWellShaped f → IsAtPlace (edges_of_figure f) place edge
+    → HasTwoEnds edge.seg
 two_ends_at f place edge shaped is =
     let p = all_at IsOwnedProper (edges_of_figure f) place edge (proper_figure f shaped) is in
     record { first = p.first; second = p.second; apart = p.apart }
 
+-- also an edge with its hand
 pub two_ends : (f : Figure) (place : ℕ) (edge : Edge) → IsWellShaped f → IsEdgeAt (edges_of_figure f) place edge → HasTwoEnds edge.seg
 two_ends f place edge shaped is = two_ends_at f place (record { seg = edge.seg; owner = edge.owner }) shaped is.is
 
@@ -51,6 +53,7 @@ pub record HasEdgeAt (f : Figure) (place : ℕ) (e : Seg) : Type 0 where
   pub edge_is : IsAtPlace (edges_of_figure f) place edge
   pub seg_is : edge.seg ≡ e
 
+-- each segment of the figure has its edge
 pub edge_of_seg : (f : Figure) (place : ℕ) (e : Seg) → IsAtPlace (segs_of f) place e → HasEdgeAt f place e
 edge_of_seg f place e is = let h = go (edges_of_figure f) place is in record { edge = h.0; edge_is = h.1; seg_is = h.2 }
   where
@@ -76,8 +79,14 @@ box_of e = record {
   high_y = int_max e.a.y e.b.y;
 }
 
+-- it is the least
 least_box : (e : Seg) → IsLeastWindow (IsOnEdge e) (box_of e)
 least_box e = least_of_ends (box_of e) e.a e.b refl refl refl refl
+
+-- a list of places is read as it stands
+pub as_read : (f : Figure) (w : Window) (items places : List ℕ) → items ≡ places → ArePlacesIn w (edges_of_figure f) places
+    → ArePlacesIn w (edges_of_figure f) items
+as_read f w items places same near = subst (λ (xs : List ℕ). ArePlacesIn w (edges_of_figure f) xs) (sym same) near
 
 module _ (f : Figure) (w : Window) (places : List ℕ) (near : ArePlacesIn w (edges_of_figure f) places) where
   -- each is the place of an edge
@@ -135,6 +144,7 @@ pub record AreEdgesBefore (f : Figure) (places : List ℕ) (k : ℕ) (edges : Li
   pub only : Each (λ e. (i : ℕ) × IsAtPlace (segs_of f) i e) edges
   pub whole : (i : ℕ) → i < k → (e : Seg) → IsAtPlace (segs_of f) (get_or places i 0) e → (j : ℕ) × IsAtPlace edges j e
 
+-- at first there are none
 pub no_edges : (f : Figure) (places : List ℕ) → AreEdgesBefore f places 0 []
 no_edges f places = record {
   two_ends = All-nil HasTwoEnds;

@@ -27,7 +27,8 @@ module _ (IsSo : Pt → Type 0) where
       go : (b : Bool) → is_same_position p q ≡ b → Each (HasEnds IsSo) (edge_before b p q (edges_after q others))
           → (IsSo q → Each (HasEnds IsSo) (edges_after q others) → Each IsSo (q ∷ others)) → Each IsSo (p ∷ q ∷ others)
       go true e f rest = by_place p (q ∷ others) IsSo h (rest (subst IsSo (same_position p q e) h) f)
-      go false e f rest = by_place p (q ∷ others) IsSo h (rest (f 0 (record { a = p; b = q }) refl).1 (λ place item is. f (suc place) item is))
+      go false e f rest =
+          by_place p (q ∷ others) IsSo h (rest (f 0 (record { a = p; b = q }) refl).1 (λ place item is. f (suc place) item is))
 
   -- it holds of the first position where a way has an edge, and else all positions are equal to it
   first_after : (p : Pt) (others : List Pt) → Each (HasEnds IsSo) (edges_after p others) → IsSo p ⊎ All (λ q. q ≡ p) others
@@ -49,11 +50,14 @@ module _ (IsSo : Pt → Type 0) where
   abbrev pub HasFirst : List Pt → Type 0
   HasFirst way = (p : Pt) → IsAtPlace way 0 p → IsSo p
 
+  -- so it holds of all positions of a way
   along_way : (way : List Pt) → HasFirst way → Each (HasEnds IsSo) (edges_of way) → Each IsSo way
   along_way [] first ends = λ place item e. cc
   along_way (p ∷ others) first ends = along_after p others (first p refl) ends
 
-  pub along_ways : (ways : List (List Pt)) → Each HasFirst ways → Each (HasEnds IsSo) (edges_of_rings ways) → Each IsSo (positions_of_ways ways)
+  -- so it holds of all positions of ways
+  pub along_ways : (ways : List (List Pt)) → Each HasFirst ways → Each (HasEnds IsSo) (edges_of_rings ways)
+      → Each IsSo (positions_of_ways ways)
   along_ways [] firsts ends = λ place item e. cc
   along_ways (way ∷ ways) firsts ends =
       each_both IsSo way (positions_of_ways ways)
@@ -74,6 +78,7 @@ module _ (IsSo : Pt → Type 0) where
         two_at_most = All-cons (λ r. (r ≡ p) ⊎ (r ≡ p)) p others (inl refl) (λ k d below. inl (still k d below));
       }))
 
+  -- and so it holds of the first positions of rings
   firsts_of_rings : (rings : List (List Pt)) → Each (λ ring. ¬ HasTooFewPoints ring) rings → Each (HasEnds IsSo) (edges_of_rings rings)
       → Each HasFirst rings
   firsts_of_rings [] enough ends = λ place item e. cc
@@ -130,11 +135,12 @@ first_is_position (w ∷ ways) (suc k) way p IsSo is first h =
     some_right IsSo w (positions_of_ways ways) (first_is_position ways k way p IsSo is first h)
 
 -- so it is one of the figure's
-pub line_position : (f : Figure) (k : ℕ) (way : List Pt) (p : Pt) (IsSo : Pt → Type 0) → IsAtPlace f.lines k way → IsAtPlace way 0 p → IsSo p
-    → SomeItem IsSo (all_positions f)
+pub line_position : (f : Figure) (k : ℕ) (way : List Pt) (p : Pt) (IsSo : Pt → Type 0) → IsAtPlace f.lines k way → IsAtPlace way 0 p
+    → IsSo p → SomeItem IsSo (all_positions f)
 line_position f k way p IsSo is first h =
     some_right IsSo f.points (positions_of_ways f.lines ++ positions_of_ways (rings_of_areas f.areas))
-    (some_left IsSo (positions_of_ways f.lines) (positions_of_ways (rings_of_areas f.areas)) (first_is_position f.lines k way p IsSo is first h))
+    (some_left IsSo (positions_of_ways f.lines) (positions_of_ways (rings_of_areas f.areas))
+    (first_is_position f.lines k way p IsSo is first h))
 
 -- as a point of the figure is
 pub point_position : (f : Figure) (IsSo : Pt → Type 0) → SomeItem IsSo f.points → SomeItem IsSo (all_positions f)

@@ -42,7 +42,9 @@ positions_added f valid edges are old one two new h k l =
     adds_same there back (adds_both old two new (adds_both old one two h k) l)
   where
     ends : (v : Point) → Each (HasEnds (λ q. IsAtPosition q v → IsAtOneOf (all_positions f) v)) (segs_of f)
-    ends v = ends_of_figure (λ q. IsAtPosition q v → IsAtOneOf (all_positions f) v) f (λ place q is. each_itself (all_positions f) place q is v)
+    ends v =
+        ends_of_figure (λ q. IsAtPosition q v → IsAtOneOf (all_positions f) v) f
+        (λ place q is. each_itself (all_positions f) place q is v)
 
     at_end : (v : Point) (e : Seg) → (i : ℕ) × IsAtPlace (segs_of f) i e → IsAtEitherEnd e v → IsAtOneOf (all_positions f) v
     at_end v e (i, is) (inl a) = (ends v i e is).0 a
@@ -120,8 +122,8 @@ module _ (a b : Figure) where
         at_crossing v c.item d.item (in_second c.item (are_b.only c.place c.item c.item_is)) (in_second d.item (d.place, d.item_is)) d.is_of
 
     -- the only common point of an edge of a figure and another edge is found
-    some_crossing : (f : Figure) (edges others : List Seg) → AreEdgesOf f edges → (v : Point) (i j : ℕ) (e g : Seg) → IsAtPlace (segs_of f) i e
-        → IsAtPlace others j g → IsOnlyCommonPoint e g v → CrossesSome edges others v
+    some_crossing : (f : Figure) (edges others : List Seg) → AreEdgesOf f edges → (v : Point) (i j : ℕ) (e g : Seg)
+        → IsAtPlace (segs_of f) i e → IsAtPlace others j g → IsOnlyCommonPoint e g v → CrossesSome edges others v
     some_crossing f edges others are v i j e g e_is g_is meet =
         let p = are.whole i e e_is in
         record { place = p.0; item = e; item_is = p.1; is_of = record { place = j; item = g; item_is = g_is; is_of = meet } }

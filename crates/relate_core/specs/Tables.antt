@@ -18,7 +18,8 @@ use Rattle.node_table.specs.declared.entry.Entry.{Entry}
 
 -- ---- sections, each once
 -- The sections at v of an edge towards one of its ends: exactly one where the edge holds v and v isn't that end, and else none.
-pub record AreTowardEnd (which : Which) (f : Figure) (v : Point) (edge : OwnedEdge) (forward : Bool) (sections : List Section) : Type 0 where
+pub record AreTowardEnd (which : Which) (f : Figure) (v : Point) (edge : OwnedEdge) (forward : Bool) (sections : List Section)
+    : Type 0 where
   pub one :
       IsOnEdge edge.seg v → ¬ IsSamePoint (point_of (far_end forward edge.seg)) v
       → (s : Section) × (sections ≡ s ∷ []) × IsSectionToward which f edge forward s

@@ -25,7 +25,8 @@ loop-entry-preserved g c =
       filled =
           one_filled (IsNode a b) a b done rest new e (subst (λ (t : List Entry). AreInOrder t) first c.in-Some.ensures.in_order)
           (subst (λ (z : Figure). AddsEntryOf a z e.node done new) i.figure_b
-          (subst (λ (z : Figure). AddsEntryOf z (g.B.Target.figure c.loop-entry.b) e.node done new) i.figure_a c.in_ok-add_at.ensures.added))
+          (subst (λ (z : Figure). AddsEntryOf z (g.B.Target.figure c.loop-entry.b) e.node done new) i.figure_a
+          c.in_ok-add_at.ensures.added))
           c.in_ok-add_at.ensures.in_order
           (subst (λ (t : List Entry). IsFilledBefore (IsNode a b) a b done t) first i.filled);
     }

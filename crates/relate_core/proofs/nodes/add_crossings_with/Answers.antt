@@ -1,6 +1,6 @@
 use Rattle.std.proofs.Common.{◌+◌, List, ℕ, get_or, sym, subst, arith}
 use Rattle.point_set.specs.declared.figure.Figure.{Figure}
-use Rattle.point_set.specs.Edges.{OwnedEdge, edges_of_figure, ArePlacesIn}
+use Rattle.point_set.specs.Edges.{OwnedEdge, edges_of_figure}
 use Rattle.point_set.specs.Nodes.{segs_of}
 use Rattle.std.proofs.lemmas.Option.{slice_get-get_or}
 use Rattle.seg_cross.specs.Meets.{IsMeet}
@@ -8,7 +8,7 @@ use Rattle.seg_cross.specs.declared.answer.Meet.{Meet}
 use Rattle.node_table.specs.declared.entry.Entry.{Entry}
 use Rattle.relate_core.specs.NodeSets.{AddsNodes, CrossesOne}
 use Rattle.relate_core.proofs.Crossings.{CrossesAt, crossing_added, no_crossing, all_crossings}
-use Rattle.relate_core.proofs.FigureEdges.{place_within}
+use Rattle.relate_core.proofs.FigureEdges.{as_read, place_within}
 use Rattle.relate_core.proofs.Sets.{IsOfBefore, adds_next, adds_all}
 use Rattle.relate_core.proofs.nodes.add_crossings_with.Goals as goal
 use Rattle.relate_core.proofs.nodes.add_crossings_with.Goals.{in-At+in_ok-add_node, in_default}
@@ -17,7 +17,7 @@ pub edge_at-requires : goal.edge_at-requires
 edge_at-requires g c =
     let f = g.T.Target.figure c.edges_in.new.self in
     let places = c.as_slice-place-items.result.now in
-    let near = subst (λ (xs : List ℕ). ArePlacesIn c.of.result (edges_of_figure f) xs) (sym c.as_slice-place-items.ensures.items) c.in_ok-edges_in.ensures.places in
+    let near = as_read f c.of.result places _ c.as_slice-place-items.ensures.items c.in_ok-edges_in.ensures.places in
     record { within = place_within f c.of.result places near c.loop-place.place-index 0 c.loop-place-test.true }
 
 pub loop-place-preserved : goal.loop-place-preserved
@@ -50,8 +50,9 @@ pub returns-clause-nodes : goal.returns-clause-nodes
 returns-clause-nodes g c =
     let f = g.T.Target.figure c.edges_in.new.self in
     let places = c.as_slice-place-items.result.now in
-    let near = subst (λ (xs : List ℕ). ArePlacesIn c.of.result (edges_of_figure f) xs) (sym c.as_slice-place-items.ensures.items) c.in_ok-edges_in.ensures.places in
-    subst (λ (z : Figure). AddsNodes (CrossesOne c.args.edge (segs_of z)) c.args.nodes.now c.loop-place.nodes) c.in_ok-edges_in.ensures.figure
+    let near = as_read f c.of.result places _ c.as_slice-place-items.ensures.items c.in_ok-edges_in.ensures.places in
+    subst (λ (z : Figure). AddsNodes (CrossesOne c.args.edge (segs_of z)) c.args.nodes.now c.loop-place.nodes)
+    c.in_ok-edges_in.ensures.figure
     (all_crossings f c.args.edge c.of.result c.of.ensures.least places near c.args.nodes.now c.loop-place.nodes
     (adds_all (CrossesAt c.args.edge (edges_of_figure f)) places c.loop-place.place-index c.args.nodes.now c.loop-place.nodes
     (omega (arith, c.loop-place-test.false)) c.loop-place.invariant))

@@ -16,7 +16,8 @@ loop-line-preserved c =
     let k = c.loop-line.line-index in
     let old = c.args.nodes.now in
     let line : List Pt = c.line-item.result in
-    let is = read_at c.as_slice-line-items.result.now lines k line c.as_slice-line-items.ensures.items c.loop-line-test.true c.line-item.is in
+    let items = c.as_slice-line-items.ensures.items in
+    let is = read_at c.as_slice-line-items.result.now lines k line items c.loop-line-test.true c.line-item.is in
     let read = sym (ap (λ (xs : List Pt). slice_get xs 0) c.as_slice.ensures.items) ∙ sym c.first.ensures.value in
     elim c.match-first.branch [
       | in-Some+in_ok-add_node w ↦
