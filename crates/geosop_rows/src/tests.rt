@@ -1,5 +1,6 @@
 ghost use Rattle.std.specs.Prelude.{◌≡◌, None};
 
+use crate::figures::{BOTH_SQUARES, SQUARE};
 use geom_valid::InvalidKind;
 use geosop_io::{MemInputs, MemSink, NamedBytes};
 use geosop_run::{Free, Gate, Refusal, Status, UsageFault, run};
@@ -149,12 +150,7 @@ fn all_relate<R: Threads + Sync + AllocGlobal>(rt: &R, rows: &[Row<'_>]) -> Resu
     Ok(true)
 }
 
-const S4: &str = "POLYGON ((0 0, 4 0, 4 4, 0 4, 0 0))";
-
 const T4: &str = "POLYGON ((4 0, 8 0, 8 4, 4 4, 4 0))";
-
-const BOTH_SQUARES: &str =
-    "GEOMETRYCOLLECTION (POLYGON ((0 0, 4 0, 4 4, 0 4, 0 0)), POLYGON ((4 0, 8 0, 8 4, 4 4, 4 0)))";
 
 const POINTS: [Row<'static>; 6] = [
     ("POINT (0 0)", "POINT (1 1)", "FF0FFF0F2\n"),
@@ -201,7 +197,7 @@ const LINES: [Row<'static>; 6] = [
         "0F1FF0102\n",
     ),
     ("LINESTRING (2 2, 2 2)", "POINT (2 2)", "0FFFFFFF2\n"),
-    (S4, "LINESTRING (0 0, 4 0)", "FF2101FF2\n"),
+    (SQUARE, "LINESTRING (0 0, 4 0)", "FF2101FF2\n"),
 ];
 
 #[test]
@@ -211,17 +207,17 @@ fn pairs_with_lines(rt: HostRuntime) -> Result<(), Fail> {
 }
 
 const AREAS: [Row<'static>; 6] = [
-    ("POINT EMPTY", S4, "FFFFFF212\n"),
+    ("POINT EMPTY", SQUARE, "FFFFFF212\n"),
     ("POINT EMPTY", "GEOMETRYCOLLECTION EMPTY", "FFFFFFFF2\n"),
-    (S4, "POLYGON ((2 2, 6 2, 6 6, 2 6, 2 2))", "212101212\n"),
-    (S4, T4, "FF2F11212\n"),
+    (SQUARE, "POLYGON ((2 2, 6 2, 6 6, 2 6, 2 2))", "212101212\n"),
+    (SQUARE, T4, "FF2F11212\n"),
     (
         "POLYGON ((0 0, 9 0, 9 9, 0 9, 0 0), (3 3, 6 3, 6 6, 3 6, 3 3))",
         "POLYGON ((3 3, 6 3, 6 6, 3 6, 3 3))",
         "FF2F112F2\n",
     ),
     (
-        S4,
+        SQUARE,
         "POLYGON ((4 4, 4 4, 4 0, 2 0, 0 0, 0 4, 4 4))",
         "2FFF1FFF2\n",
     ),
@@ -264,15 +260,15 @@ type Truth<'a> = (&'a str, &'a str, &'a str, bool);
 
 const TRUTHS: [Truth<'static>; 5] = [
     ("equals", "POINT EMPTY", "GEOMETRYCOLLECTION EMPTY", true),
-    ("touches", S4, T4, true),
+    ("touches", SQUARE, T4, true),
     (
         "equals",
-        S4,
+        SQUARE,
         "POLYGON ((4 4, 4 4, 4 0, 2 0, 0 0, 0 4, 4 4))",
         true,
     ),
-    ("covers", S4, "LINESTRING (0 0, 4 0)", true),
-    ("contains", S4, "LINESTRING (0 0, 4 0)", false),
+    ("covers", SQUARE, "LINESTRING (0 0, 4 0)", true),
+    ("contains", SQUARE, "LINESTRING (0 0, 4 0)", false),
 ];
 
 #[test]
@@ -360,7 +356,7 @@ fn many_pairs_in_order(rt: HostRuntime) -> Result<(), Fail> {
 #[test]
 fn a_quiet_run_writes_nothing(rt: HostRuntime) -> Result<(), Fail> {
     let b = "POLYGON ((2 2, 6 2, 6 6, 2 6, 2 2))";
-    assert!(rt; writes(&rt, &["geosop", "-q", "-a", S4, "-b", b, "relate"], "")?);
+    assert!(rt; writes(&rt, &["geosop", "-q", "-a", SQUARE, "-b", b, "relate"], "")?);
     Ok(())
 }
 
@@ -390,7 +386,15 @@ fn first_refusals(rt: HostRuntime) -> Result<(), Fail> {
     assert!(rt; refuses(&rt, "POINT (0 0) x", "POINT (", unknown, line)?);
     let syntax = Refusal::Text(Which::A, 1, WktKind::Syntax, 24);
     let unfinished = "POLYGON ((0 0, 4 4, 4 0,";
-    assert!(rt; refuses(&rt, unfinished, S4, syntax, "geosop: A 1: Syntax at 24\n")?);
+    assert!(rt;
+        refuses(
+            &rt,
+            unfinished,
+            SQUARE,
+            syntax,
+            "geosop: A 1: Syntax at 24\n"
+        )?
+    );
     Ok(())
 }
 
@@ -399,7 +403,7 @@ fn refused_shapes(rt: HostRuntime) -> Result<(), Fail> {
     let cross = Refusal::Shape(Which::A, 1, InvalidKind::RingCross, 1);
     let bow = "POLYGON ((0 0, 4 4, 4 0, 0 4, 0 0))";
     let line = "geosop: A 1: RingCross in element 1\n";
-    assert!(rt; refuses(&rt, bow, S4, cross, line)?);
+    assert!(rt; refuses(&rt, bow, SQUARE, cross, line)?);
     assert!(rt; refuses(&rt, bow, "missing.wkt", cross, line)?);
     let share = Refusal::Shape(Which::A, 1, InvalidKind::ElementsShareEdge, 2);
     let squares = "MULTIPOLYGON (((0 0, 4 0, 4 4, 0 4, 0 0)), ((4 0, 8 0, 8 4, 4 4, 4 0)))";
@@ -489,13 +493,32 @@ fn usage_faults(rt: HostRuntime) -> Result<(), Fail> {
     let near = ["geosop", "-a", "POINT (0 0)", "-b", "POINT (0 0)", "near"];
     let line = "geosop: usage fault: Operation\n";
     assert!(rt; is_misused(&rt, &near, UsageFault::Operation, line)?);
-    let threads = ["geosop", "--threads", "65", "-a", S4, "-b", S4, "relate"];
+    let threads = [
+        "geosop",
+        "--threads",
+        "65",
+        "-a",
+        SQUARE,
+        "-b",
+        SQUARE,
+        "relate",
+    ];
     let line = "geosop: usage fault: Threads\n";
     assert!(rt; is_misused(&rt, &threads, UsageFault::Threads, line)?);
-    let pattern = ["geosop", "-a", S4, "-b", S4, "relatePattern", "T*F**F**"];
+    let pattern = [
+        "geosop",
+        "-a",
+        SQUARE,
+        "-b",
+        SQUARE,
+        "relatePattern",
+        "T*F**F**",
+    ];
     let line = "geosop: usage fault: Pattern at 8\n";
     assert!(rt; is_misused(&rt, &pattern, UsageFault::BadMatch(8), line)?);
-    let rule = ["geosop", "--rule", "odd", "-a", S4, "-b", S4, "relate"];
+    let rule = [
+        "geosop", "--rule", "odd", "-a", SQUARE, "-b", SQUARE, "relate",
+    ];
     let line = "geosop: usage fault: Rule\n";
     assert!(rt; is_misused(&rt, &rule, UsageFault::RuleName, line)?);
     Ok(())
