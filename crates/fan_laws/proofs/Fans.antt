@@ -2,3 +2,4 @@
 pub mod Rays
 pub mod Hands
 pub mod Added
+pub mod Directions

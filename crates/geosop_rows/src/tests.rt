@@ -35,6 +35,18 @@ fn words_of(alloc: Global, list: &[&str]) -> Result<Vec<String>, AllocError> {
     Ok(words)
 }
 
+const MANY_A: &str = "POINT (1 1)
+POLYGON ((0 0, 4 0, 4 4, 0 4, 0 0))
+LINESTRING (0 0, 4 4)
+";
+
+const MANY_B: &str = "POINT (1 1)
+POINT (0 0)
+LINESTRING (0 4, 4 0)
+POLYGON ((2 2, 6 2, 6 6, 2 6, 2 2))
+POINT EMPTY
+";
+
 const PARCELS: &str = "POLYGON ((1000 2000, 1040 2000, 1040 2025, 1000 2025, 1000 2000))
 MULTIPOLYGON (((1040 2000, 1080 2000, 1080 2025, 1040 2025, 1040 2000)), ((1080 2025, 1120 2025, 1120 2050, 1080 2050, 1080 2025)))
 ";
@@ -43,6 +55,8 @@ fn files_of(alloc: Global) -> Result<NamedBytes, NoMemory> {
     let mut files = NamedBytes::new(alloc);
     files.add("two.wkt", b"POINT (0 0)\nPOINT (1 1)\n")?;
     files.add("empty.wkt", b"")?;
+    files.add("a.wkt", MANY_A.as_bytes())?;
+    files.add("b.wkt", MANY_B.as_bytes())?;
     files.add("parcels.wkt", PARCELS.as_bytes())?;
     files.add(
         "roads.wkt",
@@ -236,6 +250,120 @@ fn collections_are_unions(rt: HostRuntime) -> Result<(), Fail> {
     Ok(())
 }
 
+// Whether the words write these lines.
+fn writes<R: Threads + Sync + AllocGlobal>(
+    rt: &R,
+    list: &[&str],
+    lines: &str,
+) -> Result<bool, NoMemory> {
+    Ok(run_words(rt, list)?.is(Status::Ok, lines, ""))
+}
+
+/// An operation, A, B, and whether it is true of them.
+type Truth<'a> = (&'a str, &'a str, &'a str, bool);
+
+const TRUTHS: [Truth<'static>; 5] = [
+    ("equals", "POINT EMPTY", "GEOMETRYCOLLECTION EMPTY", true),
+    ("touches", S4, T4, true),
+    (
+        "equals",
+        S4,
+        "POLYGON ((4 4, 4 4, 4 0, 2 0, 0 0, 0 4, 4 4))",
+        true,
+    ),
+    ("covers", S4, "LINESTRING (0 0, 4 0)", true),
+    ("contains", S4, "LINESTRING (0 0, 4 0)", false),
+];
+
+#[test]
+fn named_predicates(rt: HostRuntime) -> Result<(), Fail> {
+    for (operation, a, b, holds) in &TRUTHS {
+        let lines = if *holds { "true\n" } else { "false\n" };
+        assert!(rt; writes(&rt, &["geosop", "-a", a, "-b", b, operation], lines)?);
+    }
+    Ok(())
+}
+
+/// A rule, A, and its matrix with `POINT (0 0)`.
+const RULES: [Row<'static>; 5] = [
+    ("mod2", "LINESTRING (0 0, 4 0, 4 4, 0 0)", "0F1FFFFF2\n"),
+    ("endpoint", "LINESTRING (0 0, 4 0, 4 4, 0 0)", "FF10FFFF2\n"),
+    (
+        "mod2",
+        "MULTILINESTRING ((0 0, 1 0), (0 0, 0 1), (0 0, -1 0))",
+        "FF10F0FF2\n",
+    ),
+    (
+        "monovalent",
+        "MULTILINESTRING ((0 0, 1 0), (0 0, 0 1), (0 0, -1 0))",
+        "0F1FF0FF2\n",
+    ),
+    (
+        "multivalent",
+        "MULTILINESTRING ((0 0, 1 0), (0 0, 0 1), (0 0, -1 0))",
+        "FF10FFFF2\n",
+    ),
+];
+
+#[test]
+fn boundary_node_rules(rt: HostRuntime) -> Result<(), Fail> {
+    for (rule, a, lines) in &RULES {
+        let list = [
+            "geosop",
+            "--rule",
+            rule,
+            "-a",
+            a,
+            "-b",
+            "POINT (0 0)",
+            "relate",
+        ];
+        assert!(rt; writes(&rt, &list, lines)?);
+    }
+    Ok(())
+}
+
+const MANY: [&str; 9] = [
+    "geosop",
+    "-a",
+    "a.wkt",
+    "-b",
+    "b.wkt",
+    "--prepared",
+    "--threads",
+    "64",
+    "intersects",
+];
+
+#[test]
+fn many_pairs_in_order(rt: HostRuntime) -> Result<(), Fail> {
+    let lines =
+        "true\nfalse\nfalse\nfalse\nfalse\ntrue\ntrue\ntrue\ntrue\nfalse\ntrue\ntrue\ntrue\ntrue\nfalse\n";
+    assert!(rt; writes(&rt, &MANY, lines)?);
+    assert!(rt;
+        writes(
+            &rt,
+            &["geosop", "-a", "a.wkt", "-b", "b.wkt", "intersects"],
+            lines
+        )?
+    );
+    let alloc = rt.alloc();
+    let inputs = MemInputs::new(files_of(alloc)?, PlaceList::new(alloc), 7);
+    let cut = run_on(&rt, &MANY, inputs, &[3])?;
+    assert!(rt; cut.is(Status::WriteFault, "true\nfalse\n", "geosop: write fault\n"));
+    let unread = MemInputs::new(files_of(alloc)?, places_of(alloc, &[2])?, 7);
+    let unread = run_on(&rt, &MANY, unread, &[])?;
+    assert!(rt; unread.is(Status::ReadFault, "", "geosop: read fault\n"));
+    Ok(())
+}
+
+#[test]
+fn a_quiet_run_writes_nothing(rt: HostRuntime) -> Result<(), Fail> {
+    let b = "POLYGON ((2 2, 6 2, 6 6, 2 6, 2 2))";
+    assert!(rt; writes(&rt, &["geosop", "-q", "-a", S4, "-b", b, "relate"], "")?);
+    Ok(())
+}
+
 #[test]
 fn parcels_and_roads(rt: HostRuntime) -> Result<(), Fail> {
     let lines = "1F20F1102\nFF2101FF2\n1020F1102\nFF2F01102\n";
@@ -340,25 +468,36 @@ fn a_refusal_of_a_needs_nothing_of_b(rt: HostRuntime) -> Result<(), Fail> {
     Ok(())
 }
 
+// Whether the words are refused for this fault.
+fn is_misused<R: Threads + Sync + AllocGlobal>(
+    rt: &R,
+    list: &[&str],
+    fault: UsageFault,
+    line: &str,
+) -> Result<bool, NoMemory> {
+    Ok(run_words(rt, list)?.is(Status::Usage(fault), "", line))
+}
+
 #[test]
 fn usage_faults(rt: HostRuntime) -> Result<(), Fail> {
     let twice = relate(&rt, "stdin", "stdin")?;
-    assert!(rt;
-        twice.is(
-            Status::Usage(UsageFault::Sources),
-            "",
-            "geosop: usage fault: Sources\n"
-        )
-    );
+    let line = "geosop: usage fault: Sources\n";
+    assert!(rt; twice.is(Status::Usage(UsageFault::Sources), "", line));
     assert_eq!(rt; twice.status.code(), 1);
-    let none = run_words(&rt, &["geosop", "--help"])?;
-    assert!(rt;
-        none.is(
-            Status::Usage(UsageFault::Line),
-            "",
-            "geosop: usage fault: Line\n"
-        )
-    );
+    let line = "geosop: usage fault: Line\n";
+    assert!(rt; is_misused(&rt, &["geosop", "--help"], UsageFault::Line, line)?);
+    let near = ["geosop", "-a", "POINT (0 0)", "-b", "POINT (0 0)", "near"];
+    let line = "geosop: usage fault: Operation\n";
+    assert!(rt; is_misused(&rt, &near, UsageFault::Operation, line)?);
+    let threads = ["geosop", "--threads", "65", "-a", S4, "-b", S4, "relate"];
+    let line = "geosop: usage fault: Threads\n";
+    assert!(rt; is_misused(&rt, &threads, UsageFault::Threads, line)?);
+    let pattern = ["geosop", "-a", S4, "-b", S4, "relatePattern", "T*F**F**"];
+    let line = "geosop: usage fault: Pattern at 8\n";
+    assert!(rt; is_misused(&rt, &pattern, UsageFault::BadMatch(8), line)?);
+    let rule = ["geosop", "--rule", "odd", "-a", S4, "-b", S4, "relate"];
+    let line = "geosop: usage fault: Rule\n";
+    assert!(rt; is_misused(&rt, &rule, UsageFault::RuleName, line)?);
     Ok(())
 }
 

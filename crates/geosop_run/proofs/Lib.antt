@@ -1,10 +1,8 @@
 pub mod Kept
 pub mod Parts
 pub mod SomeText
-pub mod Words
 pub mod ReadOnward
 pub mod SourceSteps
-pub mod OneCommand
 pub mod OneAnswer
 pub mod SideFaults
 pub mod Completeness

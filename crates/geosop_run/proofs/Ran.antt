@@ -7,24 +7,24 @@ use Rattle.point_set.specs.declared.figure.Figure.{Figure}
 use Rattle.geosop_io.specs.Counts.{one_more}
 use Rattle.geosop_io.specs.Inputs.{InputsSeen, KeepsOthers, IsSameSide}
 use Rattle.geosop_io.specs.Sink.{SinkSeen, after_taking}
-use Rattle.geosop_run.specs.declared.config.Config.{Config}
-use Rattle.geosop_run.specs.declared.config.LineFault.{LineFault}
-use Rattle.geosop_run.specs.declared.config.LineFault.TheVariants as line
-use Rattle.geosop_run.specs.declared.config.Source.{Source}
-use Rattle.geosop_run.specs.declared.config.Source.TheVariants as source
+use Rattle.geosop_line.specs.declared.config.Config.{Config}
+use Rattle.geosop_line.specs.declared.config.LineFault.{LineFault}
+use Rattle.geosop_line.specs.declared.config.LineFault.TheVariants as line
+use Rattle.geosop_line.specs.declared.config.Source.{Source}
+use Rattle.geosop_line.specs.declared.config.Source.TheVariants as source
 use Rattle.geosop_run.specs.declared.pairs.PairFault.{PairFault}
 use Rattle.geosop_run.specs.declared.pairs.PairFault.TheVariants as pair
 use Rattle.geosop_run.specs.declared.sources.SideFault.{SideFault}
 use Rattle.geosop_run.specs.declared.sources.SideFault.TheVariants as fault
 use Rattle.geosop_run.specs.declared.status.Refusal.{Refusal}
 use Rattle.geosop_run.specs.declared.status.Status.TheVariants as status
-use Rattle.geosop_run.specs.Command.{IsCommandOf, IsCommandFault}
+use Rattle.geosop_line.specs.CommandLine.{IsLine, IsLineFault}
 use Rattle.geosop_run.specs.Asking.{IfNamed, bytes_of, IsAskedOrNot, IsAdmittedFrom, IsReadToEnd, IsRefusedFrom, IsSideFault, side_of}
 use Rattle.geosop_run.specs.Sources.{most_bytes, IsRefusalOf, IsFirstRefusal}
 use Rattle.geosop_run.specs.Statuses.{status_of_words, status_of_side, status_of_pairs}
-use Rattle.geosop_run.specs.Text.{IsTextOf, IsWritten}
-use Rattle.geosop_run.specs.Run.{Run, scale_of, rule_of, query_of, source_of_side, HasBytes, IsAdmittedAs, IsUnwritten, HasText, HasComeTo, SaysOf, IsAskedRightly, IsLastAsked, IsRun}
-use Rattle.geosop_run.proofs.Completeness.{run_of}
+use Rattle.geosop_run.specs.Text.{IsTextOf, IsTextUnless, IsWritten}
+use Rattle.geosop_run.specs.Run.{Run, source_of_side, HasBytes, IsAdmittedAs, IsUnwritten, HasText, HasComeTo, SaysOf, IsAskedRightly, IsLastAsked, IsRun}
+use Rattle.geosop_run.proofs.Completeness.{LineHasOneAnswer, run_of}
 
 -- ---- one side, while the other is read
 -- what holds of a name holds where more does
@@ -76,7 +76,7 @@ fault_since scale side from before middle after fault.ReadFault same uncounted h
 fault_since scale side from before middle after fault.NoMemory same uncounted h = h ∙ uncounted
 
 -- ---- a run of a command
-module _ (run : Run) (command : Config) (is : IsCommandOf run.words command) where
+module _ (run : Run) (command : Config) (is : IsLine run.words command) where
   -- a side that was asked for by its source's name, or not at all, was asked for rightly
   rightly : (side : Which) → IsAskedOrNot (source_of_side command side) (run.inputs_after.asked side) → IsAskedRightly run side
   rightly side h = elim h [ inl none ↦ inl none | inr name ↦ inr (record { command = command; is_command = is; holds = name }) ]
@@ -88,25 +88,25 @@ module _ (run : Run) (command : Config) (is : IsCommandOf run.words command) whe
 
   -- the refusal of a side at which the run ended is the first
   first_refusal : (side : Which) (found : Refusal) → HasComeTo run command side
-      → ((bytes : List ℕ) → HasBytes run command side bytes → IsRefusalOf (scale_of command) side bytes found)
-      → (a b : List ℕ) → HasBytes run command A a → HasBytes run command B b → IsFirstRefusal (scale_of command) a b found
+      → ((bytes : List ℕ) → HasBytes run command side bytes → IsRefusalOf command.scale.digits side bytes found)
+      → (a b : List ℕ) → HasBytes run command A a → HasBytes run command B b → IsFirstRefusal command.scale.digits a b found
   first_refusal A found come refusal a b told_a told_b = inl (refusal a told_a)
   first_refusal B found come refusal a b told_a told_b =
       inr (record { figures = come.0; admitted = come.1.admitted a told_a; second = refusal b told_b })
 
   -- a run that ends at a side says why
   side_says : (side : Which) (found : SideFault) → HasComeTo run command side → IsUnwritten run
-      → IsSideFault (scale_of command) side (source_of_side command side) run.inputs_before run.inputs_after found
+      → IsSideFault command.scale.digits side (source_of_side command side) run.inputs_before run.inputs_after found
       → SaysOf run (status_of_side found)
   side_says side (fault.Refused found) come unwritten h =
-      let refusal : (bytes : List ℕ) → HasBytes run command side bytes → IsRefusalOf (scale_of command) side bytes found
-      = λ bytes told. subst (λ s. IsRefusalOf (scale_of command) s bytes found) h.0 (h.1.refusal bytes told) in
+      let refusal : (bytes : List ℕ) → HasBytes run command side bytes → IsRefusalOf command.scale.digits side bytes found
+      = λ bytes told. subst (λ s. IsRefusalOf command.scale.digits s bytes found) h.0 (h.1.refusal bytes told) in
       record {
         command = command;
         is_command = is;
         holds = record {
           come = subst (HasComeTo run command) (sym h.0) come;
-          refused = subst (λ s. IsRefusedFrom (scale_of command) (source_of_side command s) run.inputs_before run.inputs_after found)
+          refused = subst (λ s. IsRefusedFrom command.scale.digits (source_of_side command s) run.inputs_before run.inputs_after found)
               (sym h.0) h.1;
           first = first_refusal side found come refusal;
           unwritten = unwritten;
@@ -116,100 +116,105 @@ module _ (run : Run) (command : Config) (is : IsCommandOf run.words command) whe
   side_says side fault.ReadFault come unwritten h =
       record { command = command; is_command = is; holds = record { side = side; come = come; unreadable = h; unwritten = unwritten } }
   side_says side fault.NoMemory come unwritten h =
-      record { command = command; is_command = is; holds = record { written = inl unwritten; read_well = h } }
+      inr (record { command = command; is_command = is; holds = record { written = inl unwritten; read_well = h } })
 
 -- ---- where a run ends
-module _ (words : List (List ℕ)) (s0 : InputsSeen) (o0 : SinkSeen) (a_new : s0.asked A ≡ None) (b_new : s0.asked B ≡ None) where
-  abbrev ended_in : InputsSeen → SinkSeen → Run
-  ended_in s o = record { words = words; inputs_before = s0; inputs_after = s; output_before = o0; output_after = o }
+module _ (law : LineHasOneAnswer) (words : List (List ℕ)) (s0 : InputsSeen) (o0 : SinkSeen) (a_new : s0.asked A ≡ None)
+    (b_new : s0.asked B ≡ None)
+  where
+    abbrev ended_in : InputsSeen → SinkSeen → Run
+    ended_in s o = record { words = words; inputs_before = s0; inputs_after = s; output_before = o0; output_after = o }
 
-  -- at the words
-  words_say : (found : LineFault) → IsCommandFault words found → SaysOf (ended_in s0 o0) (status_of_words found)
-  words_say (line.Usage found) h = record { first = h; unasked = refl; unwritten = refl }
-  words_say line.NoMemory h = record { command = h.0; is_command = h.1; holds = record { written = inl refl; read_well = refl } }
+    -- at the words
+    words_say : (found : LineFault) → IsLineFault words found → SaysOf (ended_in s0 o0) (status_of_words found)
+    words_say (line.Usage found) h = record { first = h; unbegun = record { unasked = refl; unwritten = refl } }
+    words_say line.NoMemory h = inl (record { unasked = refl; unwritten = refl })
 
-  none_asked : (side : Which) → IsAskedRightly (ended_in s0 o0) side
-  none_asked A = inl a_new
-  none_asked B = inl b_new
+    none_asked : (side : Which) → IsAskedRightly (ended_in s0 o0) side
+    none_asked A = inl a_new
+    none_asked B = inl b_new
 
-  pub at_words : (found : LineFault) → IsCommandFault words found → IsRun (ended_in s0 o0) (status_of_words found)
-  at_words found h = run_of (ended_in s0 o0) (status_of_words found) (words_say found h) none_asked (inl b_new)
+    pub at_words : (found : LineFault) → IsLineFault words found → IsRun (ended_in s0 o0) (status_of_words found)
+    at_words found h = run_of law (ended_in s0 o0) (status_of_words found) (words_say found h) none_asked (inl b_new)
 
-  module _ (command : Config) (is : IsCommandOf words command) (s1 : InputsSeen) (others_a : KeepsOthers A s0 s1)
-      (asked_a : IsAskedOrNot command.a (s1.asked A))
-    where
-      -- at A
-      pub at_a : (found : SideFault) → IsSideFault (scale_of command) A command.a s0 s1 found
-          → IsRun (ended_in s1 o0) (status_of_side found)
-      at_a found h =
-          let run = ended_in s1 o0 in
-          let none : s1.asked B ≡ None = others_a.other_side.asked ∙ b_new in
-          run_of run (status_of_side found) (side_says run command is A found none refl h) (both_rightly run command is asked_a (inl none))
-          (inl none)
+    module _ (command : Config) (is : IsLine words command) (s1 : InputsSeen) (others_a : KeepsOthers A s0 s1)
+        (asked_a : IsAskedOrNot command.a (s1.asked A))
+      where
+        -- at A
+        pub at_a : (found : SideFault) → IsSideFault command.scale.digits A command.a s0 s1 found
+            → IsRun (ended_in s1 o0) (status_of_side found)
+        at_a found h =
+            let run = ended_in s1 o0 in
+            let none : s1.asked B ≡ None = others_a.other_side.asked ∙ b_new in
+            run_of law run (status_of_side found) (side_says run command is A found none refl h)
+            (both_rightly run command is asked_a (inl none))
+            (inl none)
 
-      module _ (in_a : List Figure) (admitted_a : IsAdmittedFrom (scale_of command) A command.a s0 s1 in_a)
-          (uncounted_a : s1.faults ≡ s0.faults)
-          (s2 : InputsSeen) (others_b : KeepsOthers B s1 s2) (asked_b : IsAskedOrNot command.b (s2.asked B))
-        where
-          -- A is admitted at the end too
-          still_a : (o : SinkSeen) → IsAdmittedAs (ended_in s2 o) command A in_a
-          still_a o = admitted_stays (scale_of command) A command.a s0 s1 s2 in_a others_b.other_side admitted_a
+        module _ (in_a : List Figure) (admitted_a : IsAdmittedFrom command.scale.digits A command.a s0 s1 in_a)
+            (uncounted_a : s1.faults ≡ s0.faults)
+            (s2 : InputsSeen) (others_b : KeepsOthers B s1 s2) (asked_b : IsAskedOrNot command.b (s2.asked B))
+          where
+            -- A is admitted at the end too
+            still_a : (o : SinkSeen) → IsAdmittedAs (ended_in s2 o) command A in_a
+            still_a o = admitted_stays command.scale.digits A command.a s0 s1 s2 in_a others_b.other_side admitted_a
 
-          asked_both : (o : SinkSeen) (side : Which) → IsAskedRightly (ended_in s2 o) side
-          asked_both o =
-              both_rightly (ended_in s2 o) command is (subst (IsAskedOrNot command.a) (sym others_b.other_side.asked) asked_a) asked_b
+            asked_both : (o : SinkSeen) (side : Which) → IsAskedRightly (ended_in s2 o) side
+            asked_both o =
+                both_rightly (ended_in s2 o) command is (subst (IsAskedOrNot command.a) (sym others_b.other_side.asked) asked_a) asked_b
 
-          last_asked : (o : SinkSeen) → IsLastAsked (ended_in s2 o)
-          last_asked o = inr (record { command = command; is_command = is; holds = (in_a, still_a o) })
+            last_asked : (o : SinkSeen) → IsLastAsked (ended_in s2 o)
+            last_asked o = inr (record { command = command; is_command = is; holds = (in_a, still_a o) })
 
-          -- at B
-          pub at_b : (found : SideFault) → IsSideFault (scale_of command) B command.b s1 s2 found
-              → IsRun (ended_in s2 o0) (status_of_side found)
-          at_b found h =
-              let run = ended_in s2 o0 in
-              let since = fault_since (scale_of command) B command.b s0 s1 s2 found others_a.holds uncounted_a h in
-              run_of run (status_of_side found) (side_says run command is B found (in_a, still_a o0) refl since) (asked_both o0)
-              (last_asked o0)
+            -- at B
+            pub at_b : (found : SideFault) → IsSideFault command.scale.digits B command.b s1 s2 found
+                → IsRun (ended_in s2 o0) (status_of_side found)
+            at_b found h =
+                let run = ended_in s2 o0 in
+                let since = fault_since command.scale.digits B command.b s0 s1 s2 found others_a.holds uncounted_a h in
+                run_of law run (status_of_side found) (side_says run command is B found (in_a, still_a o0) refl since) (asked_both o0)
+                (last_asked o0)
 
-          module _ (in_b : List Figure) (admitted_b : IsAdmittedFrom (scale_of command) B command.b s1 s2 in_b)
-              (uncounted_b : s2.faults ≡ s1.faults)
-              (o : SinkSeen) (text : List ℕ) (is_text : IsTextOf (rule_of command) (query_of command) in_a in_b text)
-            where
-              of_pairs : HasText (ended_in s2 o) command text
-              of_pairs = record {
-                in_a = in_a;
-                in_b = in_b;
-                admitted_a = still_a o;
-                admitted_b = admitted_since (scale_of command) B command.b s0 s1 s2 in_b others_a.holds admitted_b;
-                is_text = is_text;
-              }
+            module _ (in_b : List Figure) (admitted_b : IsAdmittedFrom command.scale.digits B command.b s1 s2 in_b)
+                (uncounted_b : s2.faults ≡ s1.faults)
+                (o : SinkSeen) (text : List ℕ) (is_text : IsTextUnless command.quiet (IsTextOf command.rule command.query in_a in_b) text)
+              where
+                of_pairs : HasText (ended_in s2 o) command text
+                of_pairs = record {
+                  in_a = in_a;
+                  in_b = in_b;
+                  admitted_a = still_a o;
+                  admitted_b = admitted_since command.scale.digits B command.b s0 s1 s2 in_b others_a.holds admitted_b;
+                  is_text = is_text;
+                }
 
-              -- in the pairs
-              pairs_say : (found : PairFault) → IsWritten (Err found) o0 o text → SaysOf (ended_in s2 o) (status_of_pairs found)
-              pairs_say pair.WriteFault front = record {
-                command = command;
-                is_command = is;
-                holds = record { text = text; of_pairs = of_pairs; front = front; read_well = uncounted_b ∙ uncounted_a };
-              }
-              pairs_say pair.NoMemory front = record {
-                command = command;
-                is_command = is;
-                holds = record {
-                  written = inr (record { text = text; of_pairs = of_pairs; front = front });
-                  read_well = uncounted_b ∙ uncounted_a;
-                };
-              }
+                -- in the pairs
+                pairs_say : (found : PairFault) → IsWritten (Err found) o0 o text → SaysOf (ended_in s2 o) (status_of_pairs found)
+                pairs_say pair.WriteFault front = record {
+                  command = command;
+                  is_command = is;
+                  holds = record { text = text; of_pairs = of_pairs; front = front; read_well = uncounted_b ∙ uncounted_a };
+                }
+                pairs_say pair.NoMemory front =
+                    inr (record {
+                      command = command;
+                      is_command = is;
+                      holds = record {
+                        written = inr (record { text = text; of_pairs = of_pairs; front = front });
+                        read_well = uncounted_b ∙ uncounted_a;
+                      };
+                    })
 
-              pub at_pairs : (found : PairFault) → IsWritten (Err found) o0 o text → IsRun (ended_in s2 o) (status_of_pairs found)
-              at_pairs found front = run_of (ended_in s2 o) (status_of_pairs found) (pairs_say found front) (asked_both o) (last_asked o)
+                pub at_pairs : (found : PairFault) → IsWritten (Err found) o0 o text → IsRun (ended_in s2 o) (status_of_pairs found)
+                at_pairs found front =
+                    run_of law (ended_in s2 o) (status_of_pairs found) (pairs_say found front) (asked_both o) (last_asked o)
 
-              -- behind the last
-              pub at_end : o ≡ after_taking o0 text → IsRun (ended_in s2 o) status.Ok
-              at_end written =
-                  run_of (ended_in s2 o) status.Ok
-                  (record {
-                    command = command;
-                    is_command = is;
-                    holds = record { text = text; of_pairs = of_pairs; written = written; read_well = uncounted_b ∙ uncounted_a };
-                  })
-                  (asked_both o) (last_asked o)
+                -- behind the last
+                pub at_end : o ≡ after_taking o0 text → IsRun (ended_in s2 o) status.Ok
+                at_end written =
+                    run_of law (ended_in s2 o) status.Ok
+                    (record {
+                      command = command;
+                      is_command = is;
+                      holds = record { text = text; of_pairs = of_pairs; written = written; read_well = uncounted_b ∙ uncounted_a };
+                    })
+                    (asked_both o) (last_asked o)

@@ -2,8 +2,8 @@
 use Rattle.std.proofs.Common.{◌≡◌, ℕ, List, codes, refl, sym, subst, arith}
 use Rattle.im_matrix.specs.declared.Which.{Which}
 use Rattle.geosop_io.specs.Inputs.{InputsSeen}
-use Rattle.geosop_run.specs.declared.config.Source.{Source}
-use Rattle.geosop_run.specs.declared.config.Source.TheVariants as source
+use Rattle.geosop_line.specs.declared.config.Source.{Source}
+use Rattle.geosop_line.specs.declared.config.Source.TheVariants as source
 use Rattle.geosop_run.specs.declared.status.Refusal.{Refusal}
 use Rattle.geosop_run.specs.declared.status.Refusal.TheVariants as refusal
 use Rattle.geosop_run.specs.declared.sources.SideFault.{SideFault}

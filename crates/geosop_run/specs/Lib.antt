@@ -1,6 +1,5 @@
 pub mod Statuses
 pub mod Text
-pub mod Command
 pub mod Sources
 pub mod Asking
 pub mod Run

@@ -3,23 +3,19 @@ use Rattle.std.specs.Prelude.{◌≡◌, ℕ, ◌⊎◌, List, Some, None}
 use Rattle.im_matrix.specs.declared.Which.{Which}
 use Rattle.im_matrix.specs.declared.Which.TheVariants.{A, B}
 use Rattle.point_set.specs.declared.figure.Figure.{Figure}
-use Rattle.point_set.specs.declared.rule.Rule.{Rule}
-use Rattle.point_set.specs.declared.rule.Rule.TheVariants.{Mod2}
-use Rattle.topo_pred.specs.declared.Query.{Query}
-use Rattle.topo_pred.specs.declared.Query.TheVariants.{Relate}
 use Rattle.geosop_io.specs.Counts.{IsRisen}
 use Rattle.geosop_io.specs.Inputs.{InputsSeen}
 use Rattle.geosop_io.specs.Sink.{SinkSeen, HasTakenFront, HasFailedAt, after_taking}
-use Rattle.geosop_run.specs.declared.config.Source.{Source}
-use Rattle.geosop_run.specs.declared.config.Config.{Config}
-use Rattle.geosop_run.specs.declared.config.UsageFault.{UsageFault}
+use Rattle.geosop_line.specs.declared.config.Source.{Source}
+use Rattle.geosop_line.specs.declared.config.Config.{Config}
+use Rattle.geosop_line.specs.declared.config.UsageFault.{UsageFault}
 use Rattle.geosop_run.specs.declared.status.Refusal.{Refusal}
 use Rattle.geosop_run.specs.declared.status.Status.{Status}
 use Rattle.geosop_run.specs.declared.status.Status.TheVariants as status
-use Rattle.geosop_run.specs.Command.{IsCommandOf, IsUsageFault}
+use Rattle.geosop_line.specs.CommandLine.{IsLine, IsFirstFault}
 use Rattle.geosop_run.specs.Asking.{name_of, bytes_of, side_of, IsAdmittedFrom, IsRefusedFrom, IsUnreadable}
 use Rattle.geosop_run.specs.Sources.{IsRefusalOf, IsAdmitted, IsFirstRefusal}
-use Rattle.geosop_run.specs.Text.{IsTextOf}
+use Rattle.geosop_run.specs.Text.{IsTextOf, IsTextUnless}
 
 -- What a run is given and what it leaves: the words of its command line, and what is seen of its inputs and of its output before
 -- it and after it.
@@ -29,18 +25,6 @@ pub record Run : Type 0 where
   pub inputs_after : InputsSeen
   pub output_before : SinkSeen
   pub output_after : SinkSeen
-
--- By how many digits the points of the numbers are moved to the right.
-abbrev pub scale_of : Config → ℕ
-scale_of command = 0
-
--- The boundary node rule.
-abbrev pub rule_of : Config → Rule
-rule_of command = Mod2
-
--- What is asked of each pair.
-abbrev pub query_of : Config → Query
-query_of command = Relate
 
 -- The source of a side.
 abbrev pub source_of_side : Config → Which → Source
@@ -55,7 +39,7 @@ HasBytes run command side bytes = bytes_of run.inputs_before.holds (source_of_si
 -- bytes are told, they are within the limit and read as these figures.
 abbrev pub IsAdmittedAs : Run → Config → Which → List Figure → Type 0
 IsAdmittedAs run command side figures =
-    IsAdmittedFrom (scale_of command) side (source_of_side command side) run.inputs_before run.inputs_after figures
+    IsAdmittedFrom command.scale.digits side (source_of_side command side) run.inputs_before run.inputs_after figures
 
 -- No fault of the inputs was counted.
 abbrev pub IsReadWell : Run → Type 0
@@ -65,13 +49,13 @@ IsReadWell run = run.inputs_after.faults ≡ run.inputs_before.faults
 abbrev pub IsUnwritten : Run → Type 0
 IsUnwritten run = run.output_after ≡ run.output_before
 
--- Both sides are admitted, and these are the lines of all their pairs, in order.
+-- Both sides are admitted, and these are the lines of all their pairs, in order; a quiet run has none.
 pub record HasText (run : Run) (command : Config) (text : List ℕ) : Type 0 where
   pub in_a : List Figure
   pub in_b : List Figure
   pub admitted_a : IsAdmittedAs run command A in_a
   pub admitted_b : IsAdmittedAs run command B in_b
-  pub is_text : IsTextOf (rule_of command) (query_of command) in_a in_b text
+  pub is_text : IsTextUnless command.quiet (IsTextOf command.rule command.query in_a in_b) text
 
 -- Ok: the output took the whole text, and no fault was counted.
 pub record SaysOk (run : Run) (command : Config) : Type 0 where
@@ -80,11 +64,15 @@ pub record SaysOk (run : Run) (command : Config) : Type 0 where
   pub written : run.output_after ≡ after_taking run.output_before text
   pub read_well : IsReadWell run
 
--- Usage: the words have this first fault. The inputs and the output are as they were.
-pub record SaysUsage (run : Run) (found : UsageFault) : Type 0 where
-  pub first : IsUsageFault run.words found
+-- Nothing was asked for and nothing was written, and no fault was counted: the inputs and the output are as they were.
+pub record IsUnbegun (run : Run) : Type 0 where
   pub unasked : run.inputs_after ≡ run.inputs_before
   pub unwritten : IsUnwritten run
+
+-- Usage: the words have this first fault. The inputs and the output are as they were.
+pub record SaysUsage (run : Run) (found : UsageFault) : Type 0 where
+  pub first : IsFirstFault run.words found
+  pub unbegun : IsUnbegun run
 
 -- How far a run had come where it ended at a side: at A, B wasn't asked for; at B, A was admitted whole.
 abbrev pub HasComeTo : Run → Config → Which → Type 0
@@ -95,8 +83,8 @@ HasComeTo run command B = (figures : List Figure) × IsAdmittedAs run command A 
 -- counted.
 pub record SaysRefused (run : Run) (command : Config) (found : Refusal) : Type 0 where
   pub come : HasComeTo run command (side_of found)
-  pub refused : IsRefusedFrom (scale_of command) (source_of_side command (side_of found)) run.inputs_before run.inputs_after found
-  pub first : (a b : List ℕ) → HasBytes run command A a → HasBytes run command B b → IsFirstRefusal (scale_of command) a b found
+  pub refused : IsRefusedFrom command.scale.digits (source_of_side command (side_of found)) run.inputs_before run.inputs_after found
+  pub first : (a b : List ℕ) → HasBytes run command A a → HasBytes run command B b → IsFirstRefusal command.scale.digits a b found
   pub unwritten : IsUnwritten run
   pub read_well : IsReadWell run
 
@@ -128,17 +116,21 @@ pub record SaysNoMemory (run : Run) (command : Config) : Type 0 where
 -- The words are a command of which this holds.
 pub record OfCommand (words : List (List ℕ)) (Holds : Config → Type 0) : Type 0 where
   pub command : Config
-  pub is_command : IsCommandOf words command
+  pub is_command : IsLine words command
   pub holds : Holds command
 
--- What a run says by its status. Every status but Usage comes of a command.
+-- What a run says by its status. Every status but Usage comes of a command, and NoMemory may also come while the words are read.
 abbrev pub SaysOf : Run → Status → Type 0
 SaysOf run status.Ok = OfCommand run.words (SaysOk run)
 SaysOf run (status.Usage found) = SaysUsage run found
 SaysOf run (status.Refused found) = OfCommand run.words (λ command. SaysRefused run command found)
 SaysOf run status.ReadFault = OfCommand run.words (SaysReadFault run)
 SaysOf run status.WriteFault = OfCommand run.words (SaysWriteFault run)
-SaysOf run status.NoMemory = OfCommand run.words (SaysNoMemory run)
+SaysOf run status.NoMemory = IsUnbegun run ⊎ OfCommand run.words (SaysNoMemory run)
+
+-- A run ended with this fault of the words, unless want of memory ended it.
+abbrev pub IsUsageOrStopped : Status → UsageFault → Type 0
+IsUsageOrStopped ended found = (ended ≡ status.Usage found) ⊎ (ended ≡ status.NoMemory)
 
 -- A side was asked for by the name that the command gives to it, or not at all.
 abbrev pub IsAskedRightly : Run → Which → Type 0
@@ -160,19 +152,19 @@ IsRefusedOrStopped ended found = (ended ≡ status.Refused found) ⊎ ((ended �
 pub record ComesOf (run : Run) (command : Config) (ended : Status) : Type 0 where
   -- Two sides that are both admitted end Ok, where no fault is counted.
   pub completes : (a b : List ℕ) → HasBytes run command A a → HasBytes run command B b → (in_a in_b : List Figure)
-      → IsAdmitted (scale_of command) a in_a → IsAdmitted (scale_of command) b in_b
+      → IsAdmitted command.scale.digits a in_a → IsAdmitted command.scale.digits b in_b
       → (¬ IsRisen run.inputs_before.faults run.inputs_after.faults) → (¬ IsRisen run.output_before.faults run.output_after.faults)
       → (ended ≡ status.Ok) ⊎ (ended ≡ status.NoMemory)
   -- The first refusal of the input comes out, unless a fault is counted; that of A whatever B is, and then B isn't asked for.
   pub refusal : (a b : List ℕ) → HasBytes run command A a → HasBytes run command B b
-      → (found : Refusal) → IsFirstRefusal (scale_of command) a b found → IsRefusedOrStopped ended found
-  pub refusal_of_a : (a : List ℕ) → HasBytes run command A a → (found : Refusal) → IsRefusalOf (scale_of command) A a found
+      → (found : Refusal) → IsFirstRefusal command.scale.digits a b found → IsRefusedOrStopped ended found
+  pub refusal_of_a : (a : List ℕ) → HasBytes run command A a → (found : Refusal) → IsRefusalOf command.scale.digits A a found
       → IsRefusedOrStopped ended found
-  pub b_unasked : (a : List ℕ) → HasBytes run command A a → (found : Refusal) → IsRefusalOf (scale_of command) A a found
+  pub b_unasked : (a : List ℕ) → HasBytes run command A a → (found : Refusal) → IsRefusalOf command.scale.digits A a found
       → run.inputs_after.asked B ≡ None
   -- Where a side has a refusal nothing is written, whatever the status and the other side.
   pub unwritten : (side : Which) (bytes : List ℕ) → HasBytes run command side bytes
-      → (found : Refusal) → IsRefusalOf (scale_of command) side bytes found → IsUnwritten run
+      → (found : Refusal) → IsRefusalOf command.scale.digits side bytes found → IsUnwritten run
 
 -- What a run says: by its status; whatever its status, for what it asked; and what comes of its words, by their first fault or as a
 -- command.
@@ -180,5 +172,6 @@ pub record IsRun (run : Run) (ended : Status) : Type 0 where
   pub says : SaysOf run ended
   pub asked : (side : Which) → IsAskedRightly run side
   pub b_last : IsLastAsked run
-  pub usage_comes : (found : UsageFault) → IsUsageFault run.words found → ended ≡ status.Usage found
-  pub comes : (command : Config) → IsCommandOf run.words command → ComesOf run command ended
+  pub usage_comes : (found : UsageFault) → IsFirstFault run.words found → IsUsageOrStopped ended found
+  pub usage_unbegun : (found : UsageFault) → IsFirstFault run.words found → IsUnbegun run
+  pub comes : (command : Config) → IsLine run.words command → ComesOf run command ended

@@ -1,5 +1,5 @@
 -- Statuses: their codes and their fault lines.
-use Rattle.std.specs.Prelude.{ℕ, List, [], ◌∷◌, codes, decimal, Result, Ok, Err}
+use Rattle.std.specs.Prelude.{ℕ, List, [], ◌∷◌, ◌++◌, codes, decimal, Option, Some, None, Result, Ok, Err}
 use Rattle.std.specs.List.{concat}
 use Rattle.im_matrix.specs.declared.Which.{Which}
 use Rattle.im_matrix.specs.declared.Which.TheVariants.{A, B}
@@ -7,10 +7,10 @@ use Rattle.wkt_text.specs.declared.control.WktKind.{WktKind}
 use Rattle.wkt_text.specs.declared.control.WktKind.TheVariants.{Syntax, UnknownType, NotWhole, TooWide, LongNumber, Ragged, RingOpen, RingShort, LineShort, Deep, TooMany}
 use Rattle.geom_valid.specs.declared.kinds.InvalidKind.{InvalidKind}
 use Rattle.geom_valid.specs.declared.kinds.InvalidKind.TheVariants.{TooFewPoints, RingCross, RingsShareEdge, HoleOutside, HolesOverlap, Disconnected, ElementsShareEdge, ElementsOverlap}
-use Rattle.geosop_run.specs.declared.config.LineFault.{LineFault}
-use Rattle.geosop_run.specs.declared.config.LineFault.TheVariants as words
-use Rattle.geosop_run.specs.declared.config.UsageFault.{UsageFault}
-use Rattle.geosop_run.specs.declared.config.UsageFault.TheVariants as usage
+use Rattle.geosop_line.specs.declared.config.LineFault.{LineFault}
+use Rattle.geosop_line.specs.declared.config.LineFault.TheVariants as words
+use Rattle.geosop_line.specs.declared.config.UsageFault.{UsageFault}
+use Rattle.geosop_line.specs.declared.config.UsageFault.TheVariants as usage
 use Rattle.geosop_run.specs.declared.pairs.PairFault.{PairFault}
 use Rattle.geosop_run.specs.declared.pairs.PairFault.TheVariants as pair
 use Rattle.geosop_run.specs.declared.sources.SideFault.{SideFault}
@@ -83,11 +83,39 @@ invalid_name ElementsOverlap = codes "ElementsOverlap"
 -- The name of a usage fault.
 abbrev pub usage_name : UsageFault → List ℕ
 usage_name usage.Line = codes "Line"
+usage_name usage.Sample = codes "Sample"
 usage_name usage.Sources = codes "Sources"
+usage_name usage.Operation = codes "Operation"
+usage_name usage.Argument = codes "Argument"
+usage_name (usage.BadMatch place) = codes "Pattern"
+usage_name usage.RuleName = codes "Rule"
+usage_name usage.Threads = codes "Threads"
+usage_name usage.Scale = codes "Scale"
+
+-- The place of a usage fault, where it has one.
+abbrev pub place_of : UsageFault → Option ℕ
+place_of usage.Line = None
+place_of usage.Sample = None
+place_of usage.Sources = None
+place_of usage.Operation = None
+place_of usage.Argument = None
+place_of (usage.BadMatch place) = Some place
+place_of usage.RuleName = None
+place_of usage.Threads = None
+place_of usage.Scale = None
+
+-- How a place is told, where there is one.
+abbrev pub place_text : Option ℕ → List ℕ
+place_text (Some place) = codes " at " ++ decimal place
+place_text None = []
 
 -- A line feed.
 abbrev pub line_feed : List ℕ
 line_feed = 10 ∷ []
+
+-- The fault line of a command line, piece by piece.
+abbrev pub usage_pieces : UsageFault → List (List ℕ)
+usage_pieces fault = codes "geosop: usage fault: " ∷ usage_name fault ∷ place_text (place_of fault) ∷ line_feed ∷ []
 
 -- The fault line of a refusal, piece by piece.
 abbrev pub refusal_pieces : Refusal → List (List ℕ)
@@ -102,7 +130,7 @@ refusal_pieces (refusal.Shape side number kind element) =
 -- The fault line of a status, piece by piece; Ok has none.
 abbrev pub fault_pieces : Status → List (List ℕ)
 fault_pieces status.Ok = []
-fault_pieces (status.Usage fault) = codes "geosop: usage fault: " ∷ usage_name fault ∷ line_feed ∷ []
+fault_pieces (status.Usage fault) = usage_pieces fault
 fault_pieces (status.Refused refusal) = refusal_pieces refusal
 fault_pieces status.ReadFault = codes "geosop: read fault" ∷ line_feed ∷ []
 fault_pieces status.WriteFault = codes "geosop: write fault" ∷ line_feed ∷ []

@@ -1,5 +1,5 @@
 -- What a run writes: a line for each pair, with the answer on the matrix of the two point sets.
-use Rattle.std.specs.Prelude.{◌≡◌, ℕ, true, false, List, [], ◌∷◌, ◌++◌, Result, Ok, Err, codes}
+use Rattle.std.specs.Prelude.{◌≡◌, ℕ, Bool, true, false, List, [], ◌∷◌, ◌++◌, Result, Ok, Err, codes}
 use Rattle.im_matrix.specs.Cells.{matrix_text}
 use Rattle.im_matrix.specs.declared.Matrix.{Matrix}
 use Rattle.point_set.specs.declared.figure.Figure.{Figure}
@@ -50,6 +50,11 @@ IsRowOf rule query in_b a = IsTextOfEach (IsLineOf rule query a) in_b
 -- The lines of all pairs: for each figure of A in order, those with each figure of B in order.
 abbrev pub IsTextOf : Rule → Query → List Figure → List Figure → List ℕ → Type 0
 IsTextOf rule query in_a in_b = IsTextOfEach (IsRowOf rule query in_b) in_a
+
+-- A text of this kind, or none where the run is quiet.
+abbrev pub IsTextUnless : Bool → (List ℕ → Type 0) → List ℕ → Type 0
+IsTextUnless true IsText text = text ≡ []
+IsTextUnless false IsText text = IsText text
 
 -- What came of a text that was to be written: all of it was taken, or a front of it, and then a fault was counted or memory wanting.
 abbrev pub IsWritten : Result (Unit {0}) PairFault → SinkSeen → SinkSeen → List ℕ → Type 0

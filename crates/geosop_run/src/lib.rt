@@ -1,8 +1,7 @@
 //! A run of the program: the command line, the two sources, and the lines of the answers.
 #![tactic(auto)]
 
-mod command;
-mod config;
+mod discard;
 mod figures;
 mod gate;
 mod output;
@@ -12,8 +11,7 @@ mod sides;
 mod sources;
 mod status;
 
-pub use command::read_line;
-pub use config::{Config, LineFault, Source, UsageFault};
 pub use gate::{Free, Gate};
+pub use geosop_line::{Config, LineFault, Source, UsageFault, read_line};
 pub use program::run;
 pub use status::{Refusal, Status};

@@ -1,12 +1,12 @@
 ghost use Rattle.std.specs.Prelude.{◌≡◌, flat_map};
 ghost use Rattle.std.specs.List.{concat};
 ghost use Rattle.geosop_io.specs.Sink.{IsOffered};
-ghost use Rattle.geosop_run.specs.Statuses.{side_name as side_bytes, kind_name as kind_bytes, invalid_name as invalid_bytes, usage_name as usage_bytes, refusal_pieces, fault_line};
+ghost use Rattle.geosop_run.specs.Statuses.{side_name as side_bytes, kind_name as kind_bytes, invalid_name as invalid_bytes, usage_name as usage_bytes, place_of, usage_pieces, refusal_pieces, fault_line};
 
-use crate::config::UsageFault;
 use crate::status::{Refusal, Status};
 use geom_valid::InvalidKind;
 use geosop_io::{Failed, Sink, offer_whole};
+use geosop_line::UsageFault;
 use im_matrix::Which;
 use itoa::Buffer;
 use wkt_text::WktKind;
@@ -72,7 +72,31 @@ fn usage_name(fault: UsageFault) -> &'static [u8]
 {
     match fault {
         UsageFault::Line => b"Line",
+        UsageFault::Sample => b"Sample",
         UsageFault::Sources => b"Sources",
+        UsageFault::Operation => b"Operation",
+        UsageFault::Argument => b"Argument",
+        UsageFault::BadMatch(_) => b"Pattern",
+        UsageFault::RuleName => b"Rule",
+        UsageFault::Threads => b"Threads",
+        UsageFault::Scale => b"Scale",
+    }
+}
+
+/// The place of a usage fault, where it has one.
+fn usage_place(fault: UsageFault) -> Option<u32>
+    ensures place { result ≡ place_of fault }
+{
+    match fault {
+        UsageFault::BadMatch(place) => Some(place),
+        UsageFault::Line
+        | UsageFault::Sample
+        | UsageFault::Sources
+        | UsageFault::Operation
+        | UsageFault::Argument
+        | UsageFault::RuleName
+        | UsageFault::Threads
+        | UsageFault::Scale => None,
     }
 }
 
@@ -157,6 +181,24 @@ fn offer_refusal<E: Sink>(err: &mut E, refusal: Refusal) -> Result<(), Failed>
     }
 }
 
+/// Offers the fault line of a command line.
+fn offer_usage_fault<E: Sink>(err: &mut E, fault: UsageFault) -> Result<(), Failed>
+    ensures offered { IsOffered result (E.seen err.old) (E.seen err.new) (concat (usage_pieces fault)) }
+{
+    let name = usage_name(fault);
+    match usage_place(fault) {
+        Some(place) => {
+            let mut buffer = Buffer::new();
+            let place = buffer.format(place).as_bytes();
+            offer_pieces(
+                err,
+                &[b"geosop: usage fault: ", name, b" at ", place, b"\n"],
+            )
+        }
+        None => offer_pieces(err, &[b"geosop: usage fault: ", name, b"\n"]),
+    }
+}
+
 /// Tries the fault line of a status; Ok has none. A failure changes nothing else. Takes no memory.
 pub(crate) fn offer_fault_line<E: Sink>(err: &mut E, status: Status) -> Result<(), Failed>
     ensures offered { IsOffered result (E.seen err.old) (E.seen err.new) (fault_line status) }
@@ -164,10 +206,7 @@ pub(crate) fn offer_fault_line<E: Sink>(err: &mut E, status: Status) -> Result<(
 {
     match status {
         Status::Ok => Ok(()),
-        Status::Usage(fault) => offer_pieces(
-            err,
-            &[b"geosop: usage fault: ", usage_name(fault), b"\n"],
-        ),
+        Status::Usage(fault) => offer_usage_fault(err, fault),
         Status::Refused(refusal) => offer_refusal(err, refusal),
         Status::ReadFault => offer_pieces(err, &[b"geosop: read fault", b"\n"]),
         Status::WriteFault => offer_pieces(err, &[b"geosop: write fault", b"\n"]),

@@ -2,8 +2,9 @@ ghost use Rattle.std.specs.Prelude.{◌≡◌, [], ◌∷◌, ◌++◌, All, map
 ghost use Rattle.im_matrix.specs.Cells.{matrix_text};
 ghost use Rattle.geosop_io.specs.Sink.{IsOffered};
 ghost use Rattle.geosop_run.specs.Sources.{IsSound};
-ghost use Rattle.geosop_run.specs.Text.{line_of, IsLineOf, IsRowOf, IsTextOf, IsTextWritten};
+ghost use Rattle.geosop_run.specs.Text.{line_of, IsLineOf, IsRowOf, IsTextOf, IsTextUnless, IsTextWritten};
 
+use crate::discard::Discard;
 use geosop_io::{Failed, Sink, offer_whole};
 use im_matrix::Matrix;
 use plane_exact::NoMemory;
@@ -127,7 +128,7 @@ fn plains_of(alloc: Global, figures: &[Valid]) -> Result<Vec<Plain<'_>>, NoMemor
 }
 
 /// Offers the lines of all pairs, A outer and B inner.
-pub(crate) fn offer_pairs<O: Sink>(
+fn offer_pairs<O: Sink>(
     alloc: Global,
     out: &mut O,
     in_a: &[Valid],
@@ -143,4 +144,25 @@ pub(crate) fn offer_pairs<O: Sink>(
         offer_row(alloc, out, a, of_b.as_mut_slice(), asked)?;
     }
     Ok(())
+}
+
+/// Offers the lines of all pairs, or, where the run is quiet, makes the answers and offers nothing.
+pub(crate) fn offer_unless_quiet<O: Sink>(
+    alloc: Global,
+    out: &mut O,
+    in_a: &[Valid],
+    in_b: &[Valid],
+    asked: Question,
+    quiet: bool,
+) -> Result<(), PairFault>
+    requires a_sound { All IsSound in_a.now }
+    requires b_sound { All IsSound in_b.now }
+    ensures written { IsTextWritten (IsTextUnless quiet (IsTextOf asked.rule asked.query in_a.now in_b.now))
+        result (O.seen out.old) (O.seen out.new) }
+{
+    if quiet {
+        offer_pairs(alloc, &mut Discard, in_a, in_b, asked)
+    } else {
+        offer_pairs(alloc, out, in_a, in_b, asked)
+    }
 }

@@ -4,21 +4,18 @@ ghost use Rattle.geosop_io.specs.Sink.{IsTried};
 ghost use Rattle.geosop_run.specs.Statuses.{fault_line, status_of as status_of_result};
 ghost use Rattle.geosop_run.specs.Run.{IsRun};
 
-use crate::command::read_line;
-use crate::config::{Config, LineFault};
+use crate::discard::Discard;
 use crate::gate::Gate;
 use crate::output::offer_fault_line;
-use crate::pairs::{PairFault, Question, offer_pairs};
+use crate::pairs::{PairFault, Question, offer_unless_quiet};
 use crate::sides::admit_side;
 use crate::sources::SideFault;
 use crate::status::Status;
 use geosop_io::{Inputs, Sink};
+use geosop_line::{LineFault, law_a_line_has_one_answer, read_line};
 use im_matrix::Which;
-use point_set::Rule;
 use std::alloc::Global;
 use std::thread::Threads;
-use topo_pred::Query;
-use wkt_text::Scale;
 
 impl From<LineFault> for Status {
     ghost use Rattle.std.specs.Prelude.{◌≡◌};
@@ -93,15 +90,22 @@ fn relate_sources<I: Inputs, O: Sink>(
       output_after = O.seen out.new;
     }) (status_of_result result) }
 {
-    let Config { a, b } = read_line(alloc, words)?;
-    let scale = Scale { digits: 0 };
-    let in_a = admit_side(alloc, inputs, Which::A, a, scale)?;
-    let in_b = admit_side(alloc, inputs, Which::B, b, scale)?;
+    law_a_line_has_one_answer();
+    let config = read_line(alloc, words)?;
+    let in_a = admit_side(alloc, inputs, Which::A, config.a, config.scale)?;
+    let in_b = admit_side(alloc, inputs, Which::B, config.b, config.scale)?;
     let asked = Question {
-        rule: Rule::Mod2,
-        query: Query::Relate,
+        rule: config.rule,
+        query: config.query,
     };
-    offer_pairs(alloc, out, in_a.as_slice(), in_b.as_slice(), asked)?;
+    offer_unless_quiet(
+        alloc,
+        out,
+        in_a.as_slice(),
+        in_b.as_slice(),
+        asked,
+        config.quiet,
+    )?;
     Ok(())
 }
 

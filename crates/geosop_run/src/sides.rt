@@ -3,10 +3,10 @@ ghost use Rattle.geosop_io.specs.Inputs.{KeepsOthers};
 ghost use Rattle.geosop_run.specs.Asking.{IsAdmittedFrom, IsAskedOrNot, IsSideFault};
 ghost use Rattle.geosop_run.specs.Sources.{IsSound};
 
-use crate::config::Source;
 use crate::figures::admit_figures;
 use crate::sources::{SideFault, read_side};
 use geosop_io::Inputs;
+use geosop_line::Source;
 use im_matrix::Which;
 use point_set::Valids;
 use std::alloc::Global;

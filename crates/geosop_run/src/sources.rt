@@ -3,9 +3,9 @@ ghost use Rattle.geosop_io.specs.Inputs.{KeepsOthers};
 ghost use Rattle.geosop_run.specs.Asking.{AreBytesFrom, IsAskedOrNot, IsSideFault, IsTextFault};
 ghost use Rattle.geosop_run.specs.Sources.{most_bytes};
 
-use crate::config::Source;
 use crate::status::Refusal;
 use geosop_io::{Failed, Inputs, Word};
+use geosop_line::Source;
 use im_matrix::Which;
 use plane_exact::NoMemory;
 use std::alloc::{AllocError, Global};

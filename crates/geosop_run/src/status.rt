@@ -1,5 +1,5 @@
-use crate::config::UsageFault;
 use geom_valid::InvalidKind;
+use geosop_line::UsageFault;
 use im_matrix::Which;
 use wkt_text::WktKind;
 

@@ -1,1 +1,4 @@
+pub mod Tables
+pub mod NodeSets
+pub mod Taking
 pub mod Answers

@@ -1,6 +1,13 @@
-//! The relation of two figures.
+//! The relation of two figures: their nodes with the sections of both figures' edges at them, and the samples there, which decide
+//! the answer to a query.
 #![tactic(auto)]
 
+mod edges;
 mod evaluation;
+mod filling;
+pub mod laws;
+mod node_sections;
+mod nodes;
+mod samples;
 
 pub use evaluation::evaluate;

@@ -1,6 +1,6 @@
 -- What ends the reading of a text, a file or standard input, its side is refused for, by whatever scale it is read.
 use Rattle.std.proofs.lemmas.Result.{IfErr-weaker}
-use Rattle.geosop_run.specs.declared.config.Source.TheVariants as source
+use Rattle.geosop_line.specs.declared.config.Source.TheVariants as source
 use Rattle.geosop_run.specs.Asking.{IsTextFault, IsSideFault}
 use Rattle.geosop_run.proofs.SideFaults.{text_fault, stdin_fault}
 use Rattle.geosop_run.proofs.sources.read_side.Goals as goal

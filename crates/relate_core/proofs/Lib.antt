@@ -1,0 +1,13 @@
+mod Answered
+mod Contributions
+mod Crossings
+mod EdgeSections
+mod Entries
+mod FigureEdges
+mod Filled
+mod Passes
+mod Positions
+mod Sets
+mod Taking
+mod Together
+mod Visits

@@ -1,0 +1,30 @@
+use Rattle.std.proofs.Common.{List, ℕ, ◌∙◌, refl, sym, subst, arith}
+use Rattle.point_set.specs.declared.figure.Figure.{Figure}
+use Rattle.point_set.specs.Edges.{edges_of_figure, ArePlacesIn}
+use Rattle.point_set.specs.Shape.{IsWellShaped}
+use Rattle.relate_core.specs.NodeSets.{AreEdgesOf}
+use Rattle.relate_core.proofs.FigureEdges.{everywhere, place_within, edge_more, all_edges}
+use Rattle.relate_core.proofs.edges.edges_of.Goals as goal
+
+pub edge_at-requires : goal.edge_at-requires
+edge_at-requires g c =
+    let f = g.T.Target.figure c.edges_in.new.self in
+    let places = c.as_slice-place-items.result.now in
+    let near = subst (λ (xs : List ℕ). ArePlacesIn _ (edges_of_figure f) xs) (sym c.as_slice-place-items.ensures.items) c.in_ok-edges_in.ensures.places in
+    record { within = place_within f _ places near c.loop-place.place-index 0 c.loop-place-test.true }
+
+pub loop-place-preserved : goal.loop-place-preserved
+loop-place-preserved g c =
+    edge_more (g.T.Target.figure c.edges_in.new.self) c.as_slice-place-items.result.now c.loop-place.place-index c.loop-place.edges
+    c.push.new.self c.edge_at.result c.edge_at.ensures.ends c.edge_at.ensures.edge c.in_ok-push.ensures.ok c.loop-place.invariant
+
+pub returns-clause-edges : goal.returns-clause-edges
+returns-clause-edges g c =
+    let f = g.T.Target.figure c.edges_in.new.self in
+    let places = c.as_slice-place-items.result.now in
+    let same = c.in_ok-edges_in.ensures.figure in
+    let near = subst (λ (xs : List ℕ). ArePlacesIn _ (edges_of_figure f) xs) (sym c.as_slice-place-items.ensures.items) c.in_ok-edges_in.ensures.places in
+    subst (λ (z : Figure). AreEdgesOf z c.loop-place.edges) same
+    (all_edges f _ places
+    (subst (λ (z : Figure). IsWellShaped z) (c.valid.ensures.figure ∙ sym same) c.figure-well_shaped.ensures.shaped) (everywhere _ refl refl refl refl) near
+    c.loop-place.place-index (omega (arith, c.loop-place-test.false)) c.loop-place.edges c.loop-place.invariant)

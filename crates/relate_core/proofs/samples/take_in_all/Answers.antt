@@ -1,0 +1,81 @@
+use Rattle.std.proofs.Common.{◌≡◌, ◌∙◌, ◌∷◌, List, length, ap, not, refl, sym, subst, arith}
+use Rattle.std.proofs.lemmas.List.Elements.{All-head}
+use Rattle.std.specs.List.{All}
+use Rattle.plane_exact.specs.NodePoints.{point_at}
+use Rattle.point_set.specs.declared.figure.Figure.{Figure}
+use Rattle.point_set.specs.Samples.{IsSample, IsSampleAt}
+use Rattle.node_table.specs.declared.entry.Entry.{Entry}
+use Rattle.relate_core.specs.Tables.{IsListed}
+use Rattle.relate_core.specs.Taking.{HasTakenIn, HasAllSections}
+use Rattle.relate_core.proofs.Taking.{taken_where_known}
+use Rattle.relate_core.proofs.Visits.{HasVisited, visited_none, visited_more, visited_all, visited_enough}
+use Rattle.relate_core.proofs.samples.take_in_all.Goals as goal
+
+pub loop-alloc-init : goal.loop-alloc-init
+loop-alloc-init g c = record {
+  figure_a = refl;
+  figure_b = refl;
+  looks_a = omega arith;
+  looks_b = omega arith;
+  visited =
+      visited_none (g.A.Target.figure c.args.a.now) (g.B.Target.figure c.args.b.now) c.are_valid.ensures.valid c.args.rule
+      c.args.table.now c.args.progress.now c.requires.sections;
+}
+
+pub take_in_node-requires-clause-sections : goal.take_in_node-requires-clause-sections
+take_in_node-requires-clause-sections g c =
+    let a : Figure = g.A.Target.figure c.args.a.now in
+    let b : Figure = g.B.Target.figure c.args.b.now in
+    let e = c.in-Some.entry in
+    let all : All (HasAllSections a b) (e ∷ c.take_next.new.self) =
+    subst (λ (t : List Entry). All (HasAllSections a b) t) c.in-Some.ensures.first c.loop-alloc.invariant.visited.sections in
+    subst (λ (f : Figure). HasAllSections f (g.B.Target.figure c.loop-alloc.b) e) (sym c.loop-alloc.invariant.figure_a)
+    (subst (λ (f : Figure). HasAllSections a f e) (sym c.loop-alloc.invariant.figure_b)
+    (All-head (HasAllSections a b) e c.take_next.new.self all))
+
+pub loop-alloc-preserved : goal.loop-alloc-preserved
+loop-alloc-preserved g c =
+    let a : Figure = g.A.Target.figure c.args.a.now in
+    let b : Figure = g.B.Target.figure c.args.b.now in
+    let old = c.args.table.now in
+    let e = c.in-Some.entry in
+    let now = c.take_next.new.self in
+    let invariant = c.loop-alloc.invariant in
+    let count : length c.loop-alloc.table ≡ length (e ∷ now) = ap length c.in-Some.ensures.first in
+    let taken_here : HasTakenIn (IsSampleAt a b c.args.rule (point_at e.node)) c.loop-alloc.progress c.take_in_node.new.progress =
+    subst (λ (f : Figure). HasTakenIn (IsSampleAt f b c.args.rule (point_at e.node)) c.loop-alloc.progress c.take_in_node.new.progress)
+    invariant.figure_a
+    (subst
+    (λ (f : Figure).
+    HasTakenIn (IsSampleAt (g.A.Target.figure c.loop-alloc.a) f c.args.rule (point_at e.node)) c.loop-alloc.progress
+    c.take_in_node.new.progress) invariant.figure_b c.in_ok-take_in_node-in-Some.ensures.taken) in
+    record {
+      figure_a = c.take_in_node.ensures.figure_a ∙ invariant.figure_a;
+      figure_b = c.take_in_node.ensures.figure_b ∙ invariant.figure_b;
+      looks_a = let more = c.take_in_node.ensures.looks_a in let before = invariant.looks_a in omega (arith, more, before, count);
+      looks_b = let more = c.take_in_node.ensures.looks_b in let before = invariant.looks_b in omega (arith, more, before, count);
+      visited =
+          visited_more a b c.are_valid.ensures.valid c.args.rule old now e c.args.progress.now c.loop-alloc.progress
+          c.take_in_node.new.progress
+          (subst (λ (t : List Entry). HasVisited a b c.args.rule old t c.args.progress.now c.loop-alloc.progress) c.in-Some.ensures.first
+          invariant.visited) taken_here;
+    }
+
+pub returns-in-None-clause-taken : goal.returns-in-None-clause-taken
+returns-in-None-clause-taken g c =
+    let a : Figure = g.A.Target.figure c.args.a.now in
+    let b : Figure = g.B.Target.figure c.args.b.now in
+    let old = c.args.table.now in
+    visited_all a b c.are_valid.ensures.valid c.args.rule old c.args.progress.now c.loop-alloc.progress
+    (subst (λ (t : List Entry). HasVisited a b c.args.rule old t c.args.progress.now c.loop-alloc.progress) (c.in-None.ensures.none.0 refl)
+    c.loop-alloc.invariant.visited)
+
+pub returns-clause-taken : goal.returns-clause-taken
+returns-clause-taken g c =
+    let a : Figure = g.A.Target.figure c.args.a.now in
+    let b : Figure = g.B.Target.figure c.args.b.now in
+    let old = c.args.table.now in
+    visited_enough a b c.are_valid.ensures.valid c.args.rule old c.loop-alloc.table c.args.progress.now c.loop-alloc.progress
+    c.loop-alloc.invariant.visited
+    (taken_where_known (IsSample (IsListed old) a b c.args.rule) c.loop-alloc.progress c.known.result
+    (c.is_none.ensures ∙ ap not c.loop-alloc-test.false) (λ v e. (c.known.ensures.settled v).0 e))

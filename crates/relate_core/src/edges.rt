@@ -1,0 +1,46 @@
+ghost use Rattle.std.specs.Prelude.{◌≡◌, ◌<◌, IfOk, length};
+ghost use Rattle.point_set.specs.Edges.{edges_of_figure, HasHand, IsEdgeAt};
+ghost use Rattle.relate_core.specs.NodeSets.{AreEdgesOf, HasTwoEnds};
+
+use plane_exact::{LIMIT, NoMemory, PlaceList, SegList, Window};
+use point_set::{Edge, EdgeId, Target};
+use std::alloc::Global;
+
+/// A box that holds every position.
+const EVERYWHERE: Window = Window {
+    low_x: -LIMIT,
+    low_y: -LIMIT,
+    high_x: LIMIT,
+    high_y: LIMIT,
+};
+
+/// The edge of a figure at a place of the list of its edges. The figure is well shaped, so the edge has two different ends within
+/// the limit. Takes no memory.
+pub(crate) fn edge_at<T: Target>(t: &T, place: u32) -> Edge
+    requires within { place < length (edges_of_figure (T.figure t.now)) }
+    ensures edge { IsEdgeAt (edges_of_figure (T.figure t.now)) place result }
+    ensures hand { HasHand (T.figure t.now) result.owner result.seg result.hand }
+    ensures ends { HasTwoEnds result.seg }
+{
+    let _well_shaped = t.valid().figure();
+    t.edge(EdgeId { place })
+}
+
+/// All edges of a figure.
+///
+/// # Errors
+/// `NoMemory`.
+pub(crate) fn edges_of<T: Target>(alloc: Global, t: &mut T) -> Result<SegList, NoMemory>
+    ensures edges { IfOk result (AreEdgesOf (T.figure t.old)) }
+    ensures figure { T.figure t.new ≡ T.figure t.old }
+    ensures looks { T.looks t.new ≡ T.looks t.old }
+{
+    let _well_shaped = t.valid().figure();
+    let mut places = PlaceList::new(alloc);
+    t.edges_in(EVERYWHERE, &mut places)?;
+    let mut edges = SegList::new(alloc);
+    for place in places.as_slice() {
+        edges.push(edge_at(t, *place).seg)?;
+    }
+    Ok(edges)
+}
