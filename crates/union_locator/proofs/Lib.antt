@@ -1,3 +1,4 @@
+mod AreaEdges
 mod AreaSections
 mod AtPoints
 mod MeetingPlaces

@@ -1,130 +1,65 @@
--- The places of rows that meet a window, as far as the rows were passed.
-use Rattle.std.proofs.Common.{◌≡◌, ◌⊎◌, inl, inr, ℕ, ◌+◌, ◌<◌, ◌≤◌, List, [], ◌∷◌, ◌++◌, length, get_or, ap, sym, ◌∙◌, subst, arith}
+-- The places of rows that meet a window, as an index of their segments finds them.
+use Rattle.std.proofs.Common.{◌≡◌, ℕ, zero, suc, List, [], ◌∷◌, ap, refl, sym, ◌∙◌, subst}
+use Rattle.std.specs.Prelude.{map}
 use Rattle.std.specs.Option.{option_map}
-use Rattle.std.specs.List.{All, Contains}
-use Rattle.std.specs.List.Sorted.{IsStrictlyIncreasing}
-use Rattle.std.proofs.lemmas.List.Elements.{All-nil, All-push, All-weaker, Contains-push, Contains-append_left}
-use Rattle.std.proofs.lemmas.Bool.{cases_lt}
-use Rattle.std.proofs.lemmas.List.{length-map, length_push, get_or_append_left, get_or_push}
-use Rattle.std.proofs.lemmas.Option.{slice_get_within, slice_get-map, slice_get-get_or}
-use Rattle.plane_exact.specs.Windows.{HasCommonPoint, IsLeastWindow}
+use Rattle.std.proofs.lemmas.List.Elements.{All-weaker}
+use Rattle.std.proofs.lemmas.Option.{slice_get-map}
 use Rattle.plane_exact.specs.declared.window.Window.{Window}
+use Rattle.edge_index.specs.Segments.{ArePlacesIn as AreSegPlacesIn, MeetsAtPlace as SegMeetsAtPlace}
 use Rattle.point_set.specs.declared.edge.Edge.{Edge}
 use Rattle.point_set.specs.Edges.{OwnedEdge, MeetsWindow, MeetsAtPlace, ArePlacesIn}
-use Rattle.point_set.specs.Validity.{IsAtPlace, IsOnEdge}
-use Rattle.figure_laws.proofs.Edges.Windows.{meets_by_least}
+use Rattle.point_set.specs.Validity.{IsAtPlace}
 use Rattle.figure_laws.proofs.Lists.Places.{some_same}
 use Rattle.ring_sides.specs.Rows.{owned_edge, owned_edges}
+use Rattle.union_locator.specs.Plains.{segs_of}
 
--- the places below k of the rows that meet the window
-pub record ArePlacesBelow (w : Window) (rows : List Edge) (k : ℕ) (out : List ℕ) : Type 0 where
-  pub ascending : IsStrictlyIncreasing out
-  pub below : All (λ place. place < k) out
-  pub meet : All (MeetsAtPlace w (owned_edges rows)) out
-  pub whole : (place : ℕ) → place < k → MeetsAtPlace w (owned_edges rows) place → Contains out place
+-- ---- a list and its images under a function
+-- what a function gives of the item at a place has the same place
+pub image_at : {X Y : Type 0} (g : X → Y) (xs : List X) (place : ℕ) (x : X) → IsAtPlace xs place x → IsAtPlace (map g xs) place (g x)
+image_at g xs place x is = slice_get-map g xs place ∙ ap (option_map g) is
 
--- at first there is none
-pub none_below : (w : Window) (rows : List Edge) → ArePlacesBelow w rows 0 []
-none_below w rows = record {
-  ascending = λ i h. absurd (omega (arith, h));
-  below = All-nil (λ place. place < 0);
-  meet = All-nil (MeetsAtPlace w (owned_edges rows));
-  whole = λ place h m. absurd (omega (arith, h));
-}
+-- the item of an image
+pub record HasSource {X Y : Type 0} (g : X → Y) (xs : List X) (place : ℕ) (y : Y) : Type 0 where
+  pub item : X
+  pub is : IsAtPlace xs place item
+  pub same : g item ≡ y
 
--- ---- one row more
--- a greater number at the end
-ascending_push : (xs : List ℕ) (k : ℕ) → IsStrictlyIncreasing xs → All (λ x. x < k) xs → IsStrictlyIncreasing (xs ++ k ∷ [])
-ascending_push xs k ascending below i h = go (cases_lt (i + 1) (length xs))
-  where
-    size : length (xs ++ k ∷ []) ≡ length xs + 1
-    size = length_push xs k
+-- each image at a place comes from the item at this place
+pub source_at : {X Y : Type 0} (g : X → Y) (xs : List X) (place : ℕ) (y : Y) → IsAtPlace (map g xs) place y → HasSource g xs place y
+source_at g [] place y is = cc
+source_at g (x ∷ xs) zero y is = record { item = x; is = refl; same = some_same is }
+source_at g (x ∷ xs) (suc place) y is =
+    let s = source_at g xs place y is in
+    record { item = s.item; is = s.is; same = s.same }
 
-    go : (i + 1 < length xs) ⊎ (length xs ≤ i + 1) → get_or (xs ++ k ∷ []) i 0 < get_or (xs ++ k ∷ []) (i + 1) 0
-    go (inl l) =
-        omega (arith, get_or_append_left xs (k ∷ []) 0 i (omega arith), get_or_append_left xs (k ∷ []) 0 (i + 1) l, ascending i l)
-    go (inr l) =
-        omega (
-          arith,
-          get_or_append_left xs (k ∷ []) 0 i (omega (arith, size, h)),
-          get_or_push xs k 0 (i + 1) (omega (arith, size, h)),
-          below i 0 (omega (arith, size, h)),
-        )
+-- ---- rows and their segments
+module _ (w : Window) (rows : List Edge) (place : ℕ) where
+  -- where the segment meets the window, the row does
+  row_meets : SegMeetsAtPlace w (segs_of rows) place → MeetsAtPlace w (owned_edges rows) place
+  row_meets m =
+      let s = source_at (λ (row : Edge). row.seg) rows place m.seg m.seg_is in
+      record {
+        edge = owned_edge s.item;
+        edge_is = image_at owned_edge rows place s.item s.is;
+        meets = subst (MeetsWindow w) (sym s.same) (record { box = m.meets.box; least = m.meets.least; common = m.meets.common });
+      }
 
--- the row at a place, as an edge with its owner
-pub owned_at : (rows : List Edge) (k : ℕ) (row : Edge) → IsAtPlace rows k row → IsAtPlace (owned_edges rows) k (owned_edge row)
-owned_at rows k row is = slice_get-map owned_edge rows k ∙ ap (option_map owned_edge) is
+  -- and the other way round
+  seg_meets : MeetsAtPlace w (owned_edges rows) place → SegMeetsAtPlace w (segs_of rows) place
+  seg_meets m =
+      let s = source_at owned_edge rows place m.edge m.edge_is in
+      let own : MeetsWindow w s.item.seg = subst (λ (z : OwnedEdge). MeetsWindow w z.seg) (sym s.same) m.meets in
+      record {
+        seg = s.item.seg;
+        seg_is = image_at (λ (row : Edge). row.seg) rows place s.item s.is;
+        meets = record { box = own.box; least = own.least; common = own.common };
+      }
 
-module _ (w : Window) (rows : List Edge) (k : ℕ) (row : Edge) (is : IsAtPlace rows k row) (box : Window)
-    (least : IsLeastWindow (IsOnEdge row.seg) box) (out : List ℕ) (h : ArePlacesBelow w rows k out) where
-  -- a row that meets the window comes to the list
-  one_more : HasCommonPoint box w → ArePlacesBelow w rows (k + 1) (out ++ k ∷ [])
-  one_more common = record {
-    ascending = ascending_push out k h.ascending h.below;
-    below =
-        All-push (λ place. place < k + 1) out k (All-weaker (λ place. place < k) (λ place. place < k + 1) (λ place l. omega (arith, l)) out h.below)
-        (omega arith);
-    meet = All-push (MeetsAtPlace w (owned_edges rows)) out k h.meet meets;
-    whole = λ place l m. by_place place m (cases_lt place k) l;
-  }
-    where
-      meets : MeetsAtPlace w (owned_edges rows) k
-      meets = record { edge = owned_edge row; edge_is = owned_at rows k row is; meets = (meets_by_least w row.seg box least).1 common }
-
-      by_place : (place : ℕ) → MeetsAtPlace w (owned_edges rows) place → (place < k) ⊎ (k ≤ place) → place < k + 1
-          → Contains (out ++ k ∷ []) place
-      by_place place m (inl l) below = Contains-append_left out (k ∷ []) place (h.whole place l m)
-      by_place place m (inr l) below =
-          let same : k ≡ place = omega (arith, l, below) in
-          subst (λ (z : ℕ). Contains (out ++ k ∷ []) z) same (Contains-push out k)
-
-  -- one that doesn't leaves the list
-  none_more : ¬ HasCommonPoint box w → ArePlacesBelow w rows (k + 1) out
-  none_more apart = record {
-    ascending = h.ascending;
-    below = All-weaker (λ place. place < k) (λ place. place < k + 1) (λ place l. omega (arith, l)) out h.below;
-    meet = h.meet;
-    whole = λ place l m. by_place place m (cases_lt place k) l;
-  }
-    where
-      at_k : MeetsAtPlace w (owned_edges rows) k → ⊥
-      at_k m =
-          let same : owned_edge row ≡ m.edge = some_same (sym (owned_at rows k row is) ∙ m.edge_is) in
-          apart ((meets_by_least w row.seg box least).0 (subst (λ (z : OwnedEdge). MeetsWindow w z.seg) (sym same) m.meets))
-
-      by_place : (place : ℕ) → MeetsAtPlace w (owned_edges rows) place → (place < k) ⊎ (k ≤ place) → place < k + 1 → Contains out place
-      by_place place m (inl l) below = h.whole place l m
-      by_place place m (inr l) below =
-          let same : place ≡ k = omega (arith, l, below) in
-          absurd (at_k (subst (λ (z : ℕ). MeetsAtPlace w (owned_edges rows) z) same m))
-
--- ---- as a pass reads the rows
--- the row that is read at a place
-item_read : (items rows : List Edge) (k : ℕ) (d : Edge) → items ≡ rows → k < length items → IsAtPlace rows k (get_or items k d)
-item_read items rows k d same below = subst (λ (xs : List Edge). IsAtPlace xs k (get_or items k d)) same (slice_get-get_or items k d below)
-
--- a row that meets the window comes to the list
-pub pushed : (w : Window) (items rows : List Edge) (k : ℕ) (d : Edge) {box : Window} (out new : List ℕ) → items ≡ rows → k < length items
-    → IsLeastWindow (IsOnEdge (get_or items k d).seg) box → HasCommonPoint box w → ArePlacesBelow w rows k out → new ≡ out ++ k ∷ []
-    → ArePlacesBelow w rows (k + 1) new
-pushed w items rows k d {box} out new same below least common h e =
-    subst (λ (xs : List ℕ). ArePlacesBelow w rows (k + 1) xs) (sym e)
-    (one_more w rows k (get_or items k d) (item_read items rows k d same below) box least out h common)
-
--- one that doesn't leaves the list
-pub passed : (w : Window) (items rows : List Edge) (k : ℕ) (d : Edge) {box : Window} (out : List ℕ) → items ≡ rows → k < length items
-    → IsLeastWindow (IsOnEdge (get_or items k d).seg) box → ¬ HasCommonPoint box w → ArePlacesBelow w rows k out
-    → ArePlacesBelow w rows (k + 1) out
-passed w items rows k d {box} out same below least apart h =
-    none_more w rows k (get_or items k d) (item_read items rows k d same below) box least out h apart
-
--- past the last row these are all
-pub all_places : (w : Window) (rows : List Edge) (k : ℕ) (out : List ℕ) → length rows ≤ k → ArePlacesBelow w rows k out
-    → ArePlacesIn w (owned_edges rows) out
-all_places w rows k out past h = record {
+-- the places of the segments in a window are those of the rows
+pub places_of_rows : (w : Window) (rows : List Edge) (places : List ℕ) → AreSegPlacesIn w (segs_of rows) places
+    → ArePlacesIn w (owned_edges rows) places
+places_of_rows w rows places h = record {
   ascending = h.ascending;
-  meet = h.meet;
-  whole = λ place m.
-      let within = slice_get_within (owned_edges rows) place m.edge m.edge_is in
-      h.whole place (omega (arith, within, length-map rows owned_edge)) m;
+  meet = All-weaker (SegMeetsAtPlace w (segs_of rows)) (MeetsAtPlace w (owned_edges rows)) (λ place m. row_meets w rows place m) places h.meet;
+  whole = λ place m. h.whole place (seg_meets w rows place m);
 }

@@ -1,16 +1,13 @@
 -- The edges near a point: what a place names, and that each edge which holds the point has its place.
-use Rattle.std.proofs.Common.{◌≡◌, ℕ, zero, suc, ◌<◌, None, List, [], ◌∷◌, length, get_or, ap, refl, sym, ◌∙◌, subst, arith}
-use Rattle.std.specs.List.{All, Contains}
+use Rattle.std.proofs.Common.{◌≡◌, ℕ, ◌<◌, None, List, length, get_or, ap, refl, sym, ◌∙◌, subst, arith}
+use Rattle.std.specs.List.{Contains}
 use Rattle.std.specs.Int.{int_max, int_min}
 use Rattle.std.proofs.lemmas.List.{length-map}
 use Rattle.std.proofs.lemmas.List.Elements.{All-contains}
 use Rattle.std.proofs.lemmas.Option.{slice_get_within}
-use Rattle.plane_laws.specs.Plane.{Point, IsSamePoint}
+use Rattle.plane_laws.specs.Plane.{Point}
 use Rattle.plane_exact.proofs.Laws.{least_of_ends}
 use Rattle.plane_exact.specs.declared.window.Window.{Window}
-use Rattle.plane_exact.specs.declared.point.Seg.{Seg}
-use Rattle.plane_exact.specs.Windows.{IsLeastWindow}
-use Rattle.plane_exact.specs.Places.{point_of}
 use Rattle.point_set.specs.declared.edge.Edge.{Edge}
 use Rattle.point_set.specs.declared.figure.Figure.{Figure}
 use Rattle.point_set.specs.Edges.{OwnedEdge, MeetsWindow, MeetsAtPlace, edges_of_figure, area_of}
@@ -18,8 +15,8 @@ use Rattle.point_set.specs.Validity.{IsAtPlace, IsOnEdge}
 use Rattle.figure_laws.proofs.Edges.Limits.{IsProper, IsOwnedProper, proper_figure}
 use Rattle.figure_laws.proofs.Edges.Windows.{meets_round}
 use Rattle.figure_laws.proofs.Lists.Places.{some_same, all_at, read_at}
-use Rattle.ring_sides.specs.Rows.{owned_edge, owned_edges}
-use Rattle.union_locator.proofs.MeetingPlaces.{owned_at}
+use Rattle.ring_sides.specs.Rows.{owned_edge}
+use Rattle.union_locator.proofs.MeetingPlaces.{image_at, source_at}
 use Rattle.union_locator.specs.Nearby.{IsNearby, IsLineEdgeAt, IsAreaEdgeAt}
 
 -- a row with its edge and owner
@@ -27,14 +24,6 @@ pub record HasRow (rows : List Edge) (place : ℕ) (edge : OwnedEdge) : Type 0 w
   pub row : Edge
   pub is : IsAtPlace rows place row
   pub same : owned_edge row ≡ edge
-
--- the row of an owned edge
-row_of_owned : (rows : List Edge) (place : ℕ) (edge : OwnedEdge) → IsAtPlace (owned_edges rows) place edge → HasRow rows place edge
-row_of_owned [] place edge is = cc
-row_of_owned (row ∷ rows) zero edge is = record { row = row; is = refl; same = some_same is }
-row_of_owned (row ∷ rows) (suc place) edge is =
-    let r = row_of_owned rows place edge is in
-    record { row = r.row; is = r.is; same = r.same }
 
 module _ (f : Figure) (p : Point) (rows : List Edge) (places : List ℕ) (near : IsNearby f p rows places) where
   -- a place names an edge
@@ -51,7 +40,7 @@ module _ (f : Figure) (p : Point) (rows : List Edge) (places : List ℕ) (near :
   -- the edge there is one of the figure
   pub edge_there : (place : ℕ) (row : Edge) → IsAtPlace rows place row → IsAtPlace (edges_of_figure f) place (owned_edge row)
   edge_there place row is =
-      subst (λ (edges : List OwnedEdge). IsAtPlace edges place (owned_edge row)) near.edges (owned_at rows place row is)
+      subst (λ (edges : List OwnedEdge). IsAtPlace edges place (owned_edge row)) near.edges (image_at owned_edge rows place row is)
 
   -- and has two different ends within the limit
   pub proper_there : (place : ℕ) (row : Edge) → IsAtPlace rows place row → IsProper row.seg
@@ -75,7 +64,9 @@ module _ (f : Figure) (p : Point) (rows : List Edge) (places : List ℕ) (near :
 
   -- and the row there is the edge
   pub near_row : (place : ℕ) (edge : OwnedEdge) → IsAtPlace (edges_of_figure f) place edge → HasRow rows place edge
-  near_row place edge is = row_of_owned rows place edge (subst (λ (edges : List OwnedEdge). IsAtPlace edges place edge) (sym near.edges) is)
+  near_row place edge is =
+      let s = source_at owned_edge rows place edge (subst (λ (edges : List OwnedEdge). IsAtPlace edges place edge) (sym near.edges) is) in
+      record { row = s.item; is = s.is; same = s.same }
 
   -- ---- the edge that is read at a place, and any other that is said to be there
   module _ (place : ℕ) (edge : Edge) (there : Contains places place) (item : edge ≡ get_or rows place edge) where

@@ -1,20 +1,18 @@
 -- What the single areas say of a point, one area after the other, and what this means for their union.
-use Rattle.std.proofs.Common.{◌≡◌, ◌⊎◌, inl, inr, ℕ, zero, suc, ◌+◌, ◌<◌, ◌≤◌, Bool, true, false, List, [], ◌∷◌, ◌++◌, length, take, get_or, refl, ap, sym, ◌∙◌, subst, arith}
-use Rattle.std.specs.List.{All, Any, list_any}
-use Rattle.std.proofs.lemmas.List.{take_more, take_all, length_push, get_or_append_left}
-use Rattle.std.proofs.lemmas.List.Elements.{All-nil, All-push, All-more, All-weaker, All-same, All-get_or}
-use Rattle.std.proofs.lemmas.List.Folds.{list_any_none, list_any-from_Any}
+use Rattle.std.proofs.Common.{◌≡◌, ℕ, zero, suc, ◌+◌, ◌<◌, ◌≤◌, List, [], ◌∷◌, ◌++◌, length, take, get_or, refl, ap, sym, ◌∙◌, subst, arith}
+use Rattle.std.specs.List.{All, Any}
+use Rattle.std.proofs.lemmas.List.{take_more, take_all}
+use Rattle.std.proofs.lemmas.List.Elements.{All-nil, All-more, All-weaker}
 use Rattle.std.proofs.lemmas.List.Quantifiers.{Any-push}
-use Rattle.std.proofs.lemmas.Option.{slice_get-get_or, slice_get_read, get_or_from_slice_get}
+use Rattle.std.proofs.lemmas.Option.{slice_get-get_or}
 use Rattle.im_matrix.specs.declared.Loc.{Loc}
 use Rattle.im_matrix.specs.declared.Loc.TheVariants.{Interior, Boundary, Exterior}
 use Rattle.plane_laws.specs.Plane.{Point}
 use Rattle.point_set.specs.declared.figure.Area.{Area}
-use Rattle.point_set.specs.declared.figure.Figure.{Figure}
-use Rattle.point_set.specs.Location.{location, is_not_exterior, is_covered, is_covered_by}
+use Rattle.point_set.specs.Location.{location}
 use Rattle.point_set.specs.Validity.{IsAtPlace}
 use Rattle.figure_laws.proofs.Lists.Search.{any_left}
-use Rattle.union_locator.specs.Areas.{IsInAreaAt, IsInAreas}
+use Rattle.union_locator.specs.Areas.{IsInAreas}
 
 -- ---- one area more
 -- what holds of the first k + 1
@@ -31,7 +29,7 @@ not_inside areas p Exterior n h =
     All-weaker (λ area. location area p ≡ Exterior) (λ area. ¬ (location area p ≡ Interior)) (λ area e i. let both = sym e ∙ i in cc) areas h
 
 -- a list has an item within its length
-some_item : {X : Type 0} (xs : List X) (k : ℕ) → k < length xs → (x : X) × (get_or xs k x ≡ x)
+pub some_item : {X : Type 0} (xs : List X) (k : ℕ) → k < length xs → (x : X) × (get_or xs k x ≡ x)
 some_item [] k below = absurd (omega arith)
 some_item (y ∷ xs) zero below = (y, refl)
 some_item (y ∷ xs) (suc k) below = some_item xs k (omega arith)

@@ -1,13 +1,15 @@
 -- What the single areas of a figure say of a point.
-use Rattle.std.specs.Prelude.{◌≡◌, ℕ, [], List}
+use Rattle.std.specs.Prelude.{◌≡◌, ℕ, [], List, map}
 use Rattle.std.specs.List.{All, Any}
 use Rattle.im_matrix.specs.declared.Loc.{Loc}
 use Rattle.im_matrix.specs.declared.Loc.TheVariants.{Interior, Boundary, Exterior}
 use Rattle.plane_laws.specs.Plane.{Point}
+use Rattle.plane_exact.specs.declared.point.Seg.{Seg}
 use Rattle.point_set.specs.declared.figure.Area.{Area}
 use Rattle.point_set.specs.declared.figure.Figure.{Figure}
 use Rattle.point_set.specs.Location.{location}
-use Rattle.point_set.specs.Validity.{IsAtPlace}
+use Rattle.point_set.specs.Validity.{IsAtPlace, IsValid}
+use Rattle.area_locator.specs.Indexed.{edges_of_area}
 
 -- Where a point lies in the area at a place.
 abbrev pub IsInAreaAt : Figure → ℕ → Point → Loc → Type 0
@@ -23,3 +25,8 @@ IsInAreas areas p Exterior = All (λ area. location area p ≡ Exterior) areas
 -- The areas of a figure without its lines and points.
 abbrev pub areas_alone : Figure → Figure
 areas_alone f = record { points = []; lines = []; areas = f.areas }
+
+-- A valid figure, and lists of edges: those of each of its areas in order.
+pub record AreEdgesByArea (f : Figure) (lists : List (List Seg)) : Type 0 where
+  pub valid : IsValid f
+  pub each : lists ≡ map edges_of_area f.areas

@@ -2,12 +2,13 @@ ghost use Rattle.std.specs.Prelude.{◌≡◌, ◌<◌, length, IfOk};
 ghost use Rattle.plane_exact.specs.NodePoints.{point_at};
 ghost use Rattle.point_set.specs.declared.figure.Figure.{Figure};
 ghost use Rattle.point_set.specs.Shape.{IsWellShaped};
-ghost use Rattle.union_locator.specs.Areas.{IsInAreaAt, IsInAreas};
+ghost use Rattle.union_locator.specs.Areas.{AreEdgesByArea, IsInAreaAt, IsInAreas};
 
-use area_locator::locate_plain;
+use area_locator::{AreaIndex, law_areas_of_valid_figures_are_valid};
 use im_matrix::Loc;
-use plane_exact::{NoMemory, Node};
+use plane_exact::{Count, ItemList, NoMemory, Node};
 use point_set::{Figure, Valid};
+use std::alloc::Global;
 
 /// A way to locate nodes in the areas of a valid figure, one by one.
 pub trait AreaLocs {
@@ -24,19 +25,38 @@ pub trait AreaLocs {
         ensures figure { figure self.new ≡ figure self.old };
 }
 
-/// The plain way: one pass over the positions of an area, without memory.
-#[derive(Clone, Copy)]
-pub(crate) struct PlainAreas<'a> {
+/// The edges of each area of a figure in order, with an index over their heights.
+#[derive(Drop)]
+pub(crate) struct IndexedAreas<'a> {
     pub(crate) valid: &'a Valid,
+    pub(crate) indexes: &'a ItemList<AreaIndex>,
+    ghost indexed: { AreEdgesByArea valid.now indexes.now },
 }
 
-impl AreaLocs for PlainAreas<'_> {
-    ghost figure = { λ p. p.valid.now };
+impl AreaLocs for IndexedAreas<'_> {
+    ghost figure = { λ a. a.valid.now };
 
     fn loc(&mut self, area: u32, n: &Node) -> Result<Loc, NoMemory> {
-        let areas = &self.valid.figure().areas;
-        Ok(locate_plain(areas.at(area as usize), n))
+        // An index locates in an area that is valid alone.
+        law_areas_of_valid_figures_are_valid();
+        let index = self.indexes.at(area as usize);
+        Ok(index.locate(n, &mut Count::new()))
     }
+}
+
+/// The index of each area of a figure, in order.
+///
+/// # Errors
+/// `NoMemory`.
+pub(crate) fn indexes_of(alloc: Global, v: &Valid) -> Result<ItemList<AreaIndex>, NoMemory>
+    ensures indexes { IfOk result (AreEdgesByArea v.now) }
+{
+    let count = v.figure().areas.len();
+    let mut indexes = ItemList::new(alloc);
+    for place in 0..count {
+        indexes.push(AreaIndex::build(alloc, v, place as u32)?)?;
+    }
+    Ok(indexes)
 }
 
 /// What the single areas of a figure say of a node: Interior at the first that has it inside, else Boundary where one of

@@ -1,20 +1,23 @@
-use crate::areas::PlainAreas;
+use crate::areas::{IndexedAreas, indexes_of};
 use crate::locate::locate_with;
 use crate::nearby::Nearby;
-use crate::places::places_in;
+use crate::places::IndexedRows;
+use area_locator::AreaIndex;
 use bound_rule::EndTable;
 use im_matrix::Loc;
-use plane_exact::{NoMemory, Node, PlaceList, Window};
-use point_set::{DimLoc, Edge, EdgeId, EdgeRows, Rule, Target, Valid};
+use plane_exact::{ItemList, NoMemory, Node, PlaceList, Window};
+use point_set::{DimLoc, Edge, EdgeId, Rule, Target, Valid};
 use ring_sides::edges_of;
 use std::alloc::Global;
 use std::marker::Model;
 
-/// A valid figure with its edges and its line ends, which is located in by passes over its positions and edges.
+/// A valid figure with its edges, its line ends, an index that finds edges in a window, and one of each area, by which nodes
+/// are located in it.
 #[derive(Drop)]
 pub struct Plain<'a> {
     valid: &'a Valid,
-    rows: EdgeRows,
+    edges: IndexedRows,
+    indexes: ItemList<AreaIndex>,
     ends: EndTable,
     near: PlaceList,
     alloc: Global,
@@ -25,9 +28,9 @@ impl<'a> Model for Plain<'a> {
 
     ghost Value = { SeenPlain };
 
-    ghost view = { λ p. record { figure = p.valid.now; rows = p.rows; ends = p.ends } };
+    ghost view = { λ p. record { figure = p.valid.now; rows = p.edges.rows; areas = p.indexes; ends = p.ends } };
 
-    ghost invariant = { λ p. IsPlain (record { figure = p.valid.now; rows = p.rows; ends = p.ends }) };
+    ghost invariant = { λ p. IsPlain (record { figure = p.valid.now; rows = p.edges.rows; areas = p.indexes; ends = p.ends }) };
 }
 
 impl<'a> Plain<'a> {
@@ -44,7 +47,8 @@ impl<'a> Plain<'a> {
     {
         Ok(Plain {
             valid: v,
-            rows: edges_of(alloc, v)?,
+            edges: IndexedRows::new(alloc, edges_of(alloc, v)?)?,
+            indexes: indexes_of(alloc, v)?,
             ends: EndTable::build(alloc, v)?,
             near: PlaceList::new(alloc),
             alloc,
@@ -60,14 +64,19 @@ impl<'a> Plain<'a> {
         ensures adjacent { IfOk result (IsAdjacent self.new.figure (point_at n.now)) }
         ensures same { self.new ≡ self.old }
     {
-        places_in(&self.rows, &Window::round(n), &mut self.near)?;
+        let edges = &self.edges;
+        edges.places_in(Window::round(n), &mut self.near)?;
         let around = Nearby {
             figure: self.valid.figure(),
-            rows: &self.rows,
+            rows: &edges.rows,
             places: &self.near,
             node: n,
         };
-        around.adjacent(self.alloc, &mut PlainAreas { valid: self.valid })
+        let mut areas = IndexedAreas {
+            valid: self.valid,
+            indexes: &self.indexes,
+        };
+        around.adjacent(self.alloc, &mut areas)
     }
 }
 
@@ -84,18 +93,29 @@ impl Target for Plain<'_> {
     }
 
     fn edge(&self, id: EdgeId) -> Edge {
-        *self.rows.at(id.place as usize)
+        *self.edges.rows.at(id.place as usize)
     }
 
     fn locate(&mut self, n: &Node, rule: Rule) -> Result<DimLoc, NoMemory> {
-        places_in(&self.rows, &Window::round(n), &mut self.near)?;
-        let mut areas = PlainAreas { valid: self.valid };
+        let edges = &self.edges;
+        edges.places_in(Window::round(n), &mut self.near)?;
+        let mut areas = IndexedAreas {
+            valid: self.valid,
+            indexes: &self.indexes,
+        };
         locate_with(
-            self.alloc, self.valid, &self.rows, &self.near, &self.ends, &mut areas, n, rule,
+            self.alloc,
+            self.valid,
+            &edges.rows,
+            &self.near,
+            &self.ends,
+            &mut areas,
+            n,
+            rule,
         )
     }
 
     fn edges_in(&mut self, w: Window, out: &mut PlaceList) -> Result<(), NoMemory> {
-        places_in(&self.rows, &w, out)
+        self.edges.places_in(w, out)
     }
 }

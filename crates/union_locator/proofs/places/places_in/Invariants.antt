@@ -1,6 +1,0 @@
--- The list has the places below the row's place of the rows that meet the window.
-use Rattle.union_locator.proofs.MeetingPlaces.{ArePlacesBelow}
-use Rattle.union_locator.proofs.places.places_in.Given as goal
-
-abbrev pub invariant-loop-place : goal.invariant-loop-place
-invariant-loop-place l = ArePlacesBelow l.w l.rows l.place l.out
