@@ -4,6 +4,7 @@ use Rattle.std.specs.Prelude.{map}
 use Rattle.std.specs.Option.{option_map}
 use Rattle.std.proofs.lemmas.List.Elements.{All-weaker}
 use Rattle.std.proofs.lemmas.Option.{slice_get-map}
+use Rattle.plane_exact.specs.declared.point.Seg.{Seg}
 use Rattle.plane_exact.specs.declared.window.Window.{Window}
 use Rattle.edge_index.specs.Segments.{ArePlacesIn as AreSegPlacesIn, MeetsAtPlace as SegMeetsAtPlace}
 use Rattle.point_set.specs.declared.edge.Edge.{Edge}
@@ -60,6 +61,6 @@ pub places_of_rows : (w : Window) (rows : List Edge) (places : List ℕ) → Are
     → ArePlacesIn w (owned_edges rows) places
 places_of_rows w rows places h = record {
   ascending = h.ascending;
-  meet = All-weaker (SegMeetsAtPlace w (segs_of rows)) (MeetsAtPlace w (owned_edges rows)) (row_meets w rows) places h.meet;
+  meet = All-weaker (SegMeetsAtPlace w (segs_of rows)) (MeetsAtPlace w (owned_edges rows)) (λ place m. row_meets w rows place m) places h.meet;
   whole = λ place m. h.whole place (seg_meets w rows place m);
 }
