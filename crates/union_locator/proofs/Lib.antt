@@ -1,5 +1,4 @@
 mod AreaSections
-mod AtPoints
 mod MeetingPlaces
 mod NearEdges
 mod OnLines

@@ -3,8 +3,8 @@ use Rattle.plane_exact.specs.Places.{point_of}
 use Rattle.point_set.specs.Lines.{count_at}
 use Rattle.bound_rule.proofs.Counted.{counted_at, counted_at-count, counted_more}
 use Rattle.bound_rule.proofs.LineEnds.{count-most}
-use Rattle.bound_rule.proofs.ends.EndTable.add.Goals as goal
-use Rattle.bound_rule.proofs.ends.EndTable.add.Goals.{in-Ok, in-Err}
+use Rattle.bound_rule.proofs.ends.EndCounts.add.Goals as goal
+use Rattle.bound_rule.proofs.ends.EndCounts.add.Goals.{in-Ok, in-Err}
 
 pub overflow_add-count : goal.overflow_add-count
 overflow_add-count c =

@@ -4,7 +4,7 @@ use Rattle.plane_exact.specs.declared.point.Pt.{Pt}
 use Rattle.point_set.specs.Lines.{ends_of_lines}
 use Rattle.point_set.specs.declared.figure.Figure.{Figure}
 use Rattle.bound_rule.proofs.LineEnds.{one_line_more, few_so_far, all_lines}
-use Rattle.bound_rule.proofs.ends.EndTable.build.Goals as goal
+use Rattle.bound_rule.proofs.ends.EndCounts.build.Goals as goal
 
 pub loop-line-init : goal.loop-line-init
 loop-line-init c = rw c.new.ensures.empty (IsPermutation-refl (ends_of_lines c.args.v.now.lines))

@@ -3,7 +3,7 @@ use Rattle.std.specs.Option.{unwrap_or}
 use Rattle.plane_exact.specs.Places.{point_of}
 use Rattle.point_set.specs.Lines.{count_at}
 use Rattle.bound_rule.proofs.Counted.{counted_at-count}
-use Rattle.bound_rule.proofs.ends.EndTable.count_at_position.Goals as goal
+use Rattle.bound_rule.proofs.ends.EndCounts.count_at_position.Goals as goal
 
 pub returns : goal.returns
 returns c = record {

@@ -1,7 +1,7 @@
 use Rattle.std.proofs.Common.{ap, arith, ◌∷◌, length}
 use Rattle.std.proofs.lemmas.List.Sorted.{length_permutation}
 use Rattle.bound_rule.proofs.LineEnds.{both_ends}
-use Rattle.bound_rule.proofs.ends.EndTable.add_ends.Goals as goal
+use Rattle.bound_rule.proofs.ends.EndCounts.add_ends.Goals as goal
 
 pub add-requires-in-Some : goal.add-requires-in-Some
 add-requires-in-Some c =
