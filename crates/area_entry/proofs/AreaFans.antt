@@ -1,7 +1,7 @@
 -- The fan of the rows of a clean area at one of its points: a sector that its hands say to be inside is inside, and any other one is
 -- outside.
-use Rattle.std.proofs.Common.{◌≡◌, ◌⊎◌, inl, inr, ℕ, ◌+◌, ◌%◌, ◌<◌, ◌-ℤ◌, Bool, true, false, IsTrue, ◌↔◌, Some, List, [], ◌∷◌, ◌++◌, length, take, get_or, map, ap, refl, sym, ◌∙◌, subst, arith}
-use Rattle.std.specs.List.{All, Any, Contains, slice_get}
+use Rattle.std.proofs.Common.{◌≡◌, ◌⊎◌, inl, inr, ℕ, ◌+◌, ◌%◌, ◌<◌, ◌-ℤ◌, Bool, true, false, IsTrue, ◌↔◌, Some, List, [], ◌∷◌, ◌++◌, length, take, ap, refl, sym, ◌∙◌, subst, arith}
+use Rattle.std.specs.List.{Any, Contains}
 use Rattle.std.proofs.Math.Nat.{mod-lt}
 use Rattle.std.proofs.lemmas.Bool.{true≢false}
 use Rattle.std.proofs.lemmas.List.{take_more}
@@ -23,15 +23,15 @@ use Rattle.point_set.specs.declared.edge.Edge.{Edge}
 use Rattle.point_set.specs.declared.edge.Hand.{Hand}
 use Rattle.point_set.specs.declared.edge.Hand.TheVariants as hand
 use Rattle.point_set.specs.declared.figure.Area.{Area}
-use Rattle.point_set.specs.Edges.{IsAreaHand, area_of, far_end, near_end, hand_of_way}
+use Rattle.point_set.specs.Edges.{IsAreaHand, area_of, far_end, hand_of_way}
 use Rattle.point_set.specs.Germ.{IsGerm}
-use Rattle.point_set.specs.Rings.{is_on_edge, is_on_edges}
-use Rattle.point_set.specs.Sectors.{AreRaysAt, IsInSector, sectors_of}
+use Rattle.point_set.specs.Rings.{is_on_edges}
+use Rattle.point_set.specs.Sectors.{AreRaysAt, IsInSector}
 use Rattle.point_set.specs.Validity.{IsAtPlace, IsOnEdge}
 use Rattle.figure_laws.proofs.Lists.Places.{all_at, some_same}
 use Rattle.ring_laws.proofs.Germs.Areas.{germ_one}
 use Rattle.ring_laws.proofs.Germs.Edges.{on_true}
-use Rattle.germ_laws.proofs.Rays.Neighbours.{within_sector, IsBetween, within_from, between_rays, sectors_some}
+use Rattle.germ_laws.proofs.Rays.Neighbours.{within_sector, IsBetween, within_from, between_rays}
 use Rattle.germ_laws.proofs.Rays.Places.{item_at}
 use Rattle.germ_laws.proofs.Rays.Ways.{one_way, way_cone, HasRay, any_ray}
 use Rattle.germ_laws.proofs.Room.Starry.{not_here}
@@ -242,7 +242,8 @@ module _ (area : Area) (clean : IsClean area) (rows : List Edge) (are_rows : Are
 
       section : Any (IsSectionOfEdge A r.row away.forward) sections
       section =
-          rows_whole v rows sections are edge.place r.row r.is (subst (λ (g : Seg). IsOnEdge g v) (sym r.same) (on_true edge.on)) away.forward
+          rows_whole v rows sections are edge.place r.row r.is (subst (λ (g : Seg). IsOnEdge g v) (sym r.same) (on_true edge.on))
+          away.forward
           (subst (λ (g : Seg). ¬ IsSamePoint (point_of (far_end away.forward g)) v) (sym r.same) away.away)
 
       ray : HasRay rays (direction_of section.1.dir)

@@ -1,5 +1,5 @@
 -- The sign of the bend of two directions as the code computes it, and what lies strictly between two directions by such signs.
-use Rattle.std.proofs.Common.{◌≡◌, ◌⊎◌, ℤ, pos, ◌-ℤ◌, ◌*ℤ◌, ◌<ℤ◌, ◌≤◌, ◌+◌, Bool, true, false, IsTrue, ◌↔◌, not, [], ◌∷◌, unsigned_abs, w64, refl, sym, ◌∙◌, arith}
+use Rattle.std.proofs.Common.{◌≡◌, ◌⊎◌, pos, ◌-ℤ◌, ◌*ℤ◌, ◌<ℤ◌, ◌≤◌, Bool, true, false, IsTrue, ◌↔◌, not, [], ◌∷◌, unsigned_abs, w64, refl, sym, ◌∙◌, arith}
 use Rattle.std.proofs.lemmas.Bool.{true≢false}
 use Rattle.std.proofs.lemmas.Int.{ints}
 use Rattle.whole_algebra.proofs.Computed.{Computes, read, product, difference, stored, narrow}
@@ -20,7 +20,8 @@ above_size d = omega (arith, ints, d.way.bottom, d.way.top)
 
 -- the two products are exact, and so is their difference
 pub bend_computes : (r d : Dir)
-    → Computes (narrow (narrow r.dx *ℤ narrow d.dy) -ℤ narrow (narrow r.dy *ℤ narrow d.dx)) (bend_of (direction_of r) (direction_of d)) 140737488355328
+    → Computes (narrow (narrow r.dx *ℤ narrow d.dy) -ℤ narrow (narrow r.dy *ℤ narrow d.dx)) (bend_of (direction_of r) (direction_of d))
+    140737488355328
 unfolding bend_of
 bend_computes r d =
     difference (stored w64 (product (read w64 r.dx (across_size r) refl) (read w64 d.dy (above_size d) refl)) refl)

@@ -1,7 +1,6 @@
 -- Where edges run on into a part of an area: at a node, from one edge of the area, from any, and what it says of entering the part.
-use Rattle.std.proofs.Common.{◌≡◌, ◌≢◌, ◌⊎◌, inl, inr, ◌↔◌, ℕ, zero, suc, ◌+◌, ◌*◌, ◌<◌, ◌*ℤ◌, Bool, true, false, IsTrue, List, [], ◌∷◌, length, get_or, map, ap, refl, sym, ◌∙◌, subst, arith}
-use Rattle.std.specs.List.{All, Any, Contains}
-use Rattle.std.proofs.lemmas.Bool.{true≢false}
+use Rattle.std.proofs.Common.{◌≡◌, ◌≢◌, ◌↔◌, ℕ, suc, ◌+◌, ◌<◌, ◌*ℤ◌, Bool, true, false, IsTrue, List, [], ◌∷◌, length, get_or, refl, sym, ◌∙◌, subst, arith}
+use Rattle.std.specs.List.{All, Any}
 use Rattle.std.proofs.lemmas.Option.{slice_get_within, get_or_from_slice_get, slice_get_read, slice_get-get_or}
 use Rattle.im_matrix.specs.declared.Loc.{Loc}
 use Rattle.im_matrix.specs.declared.Loc.TheVariants.{Boundary}
@@ -14,9 +13,7 @@ use Rattle.plane_laws.specs.Along.{IsAway, IsInCone}
 use Rattle.plane_laws.specs.Directions.{Direction}
 use Rattle.plane_laws.specs.Plane.{Point, IsSamePoint}
 use Rattle.plane_exact.specs.NodePoints.{point_at}
-use Rattle.plane_exact.specs.Orders.{direction_of}
 use Rattle.plane_exact.specs.Places.{point_of}
-use Rattle.plane_exact.specs.declared.dir.Dir.{Dir}
 use Rattle.plane_exact.specs.declared.node.Node.{Node}
 use Rattle.plane_exact.specs.declared.point.Pt.{Pt}
 use Rattle.plane_exact.specs.declared.point.Seg.{Seg}
@@ -26,7 +23,6 @@ use Rattle.point_set.specs.Germ.{IsGerm}
 use Rattle.point_set.specs.Location.{location}
 use Rattle.point_set.specs.Rings.{edges_of, is_on_edge, is_on_edges}
 use Rattle.point_set.specs.Validity.{EdgesShareSegment, IsAtPlace, IsOnEdge}
-use Rattle.figure_laws.proofs.Lists.Places.{all_at, some_same}
 use Rattle.side_laws.proofs.Edges.Places.{first_begins}
 use Rattle.ring_laws.proofs.Germs.Areas.{germ_one, toward_on}
 use Rattle.ring_laws.proofs.Germs.Edges.{on_true}
@@ -34,15 +30,17 @@ use Rattle.germ_laws.proofs.Rays.Ways.{one_way}
 use Rattle.germ_laws.proofs.Room.Starry.{not_here}
 use Rattle.germ_laws.proofs.Room.Ways.{germ_of_way, germ_of_point, cone_of_point}
 use Rattle.kind_laws.proofs.Cover.Inside.{on_some_edge}
-use Rattle.seg_cross.specs.Meets.{IsMeet, IsCommon, IsOnlyCommon}
+use Rattle.seg_cross.specs.Meets.{IsMeet}
 use Rattle.seg_cross.specs.declared.answer.Meet.TheVariants.{At}
 use Rattle.valid_laws.specs.Entering.{edges_in, Enters, IsClean, IsHeldOut, IsSimpleRing}
 use Rattle.valid_laws.proofs.Edges.Sharing.{between_on}
 use Rattle.valid_laws.proofs.Entering.Walk.{some_place, walk}
-use Rattle.area_entry.specs.Entries.{BeginsIn, IsUnshared, RunsInto, RunsOn, RunsOnFrom}
+use Rattle.area_entry.specs.Entries.{BeginsIn, IsUnshared, RunsInto, RunsOn, RunsOnFrom, RunsOnFromRow}
 use Rattle.area_entry.specs.Grounds.{AreRowsOf}
 use Rattle.area_entry.proofs.Bends.{not_so}
-use Rattle.area_entry.proofs.RowPlaces.{HasRow, row_there, row_of_edge, row_of_seg, segs_of_rows, seg_there}
+use Rattle.area_entry.proofs.RowPlaces.{HasRow, row_there, row_of_edge, row_of_seg, seg_there}
+use Rattle.area_entry.specs.RowSections.{AreNear, segs_of_rows}
+use Rattle.area_entry.proofs.PlacedRows.{near_row}
 
 -- the test whether a point is on an edge
 on_edge : {v : Point} (e : Seg) → IsOnEdge e v → is_on_edge v e ≡ true
@@ -106,6 +104,20 @@ module _ (area : Area) (rows : List Edge) (are_rows : AreRowsOf area rows) (part
           runs = r.runs;
         },
       )
+
+  -- so it is enough to look at the rows near the edge
+  pub by_places : (places : List ℕ) → AreNear (IsOnEdge e) rows places → (b : Bool)
+      → (IsTrue b ↔ Any (RunsOnFromRow e rows area part) places) → (IsTrue b ↔ RunsInto area part e)
+  by_places places near b decides = (λ t. onto (decides.0 t), λ r. decides.1 (back (some_row r)))
+    where
+      onto : Any (RunsOnFromRow e rows area part) places → RunsInto area part e
+      onto a = from_row a.1 a.4.row a.4.row_is a.4.from
+
+      back : Any (λ row. RunsOnFrom e row.seg area part) rows → Any (RunsOnFromRow e rows area part) places
+      back a =
+          let is = slice_get_read rows (length rows) a.0 a.1 refl a.2 (sym a.3) in
+          let there = near_row e rows places near a.0 a.1 is a.4.v a.4.runs.on a.4.there in
+          (there.0, a.0, there.1, there.2, record { row = a.1; row_is = is; from = a.4 })
 
 -- ---- the ring
 -- its first edge begins at its first position

@@ -3,6 +3,7 @@ mod Bends
 mod Entries
 mod Loops
 mod Overlaps
+mod PlacedRows
 mod RowPlaces
 mod Searches
 mod SectionLists

@@ -1,5 +1,5 @@
 -- The item of a step of a loop over a list.
-use Rattle.std.proofs.Common.{◌≡◌, ℕ, ◌+◌, ◌<◌, List, length, get_or, Some, refl, sym, subst}
+use Rattle.std.proofs.Common.{◌≡◌, ℕ, ◌+◌, ◌<◌, List, length, get_or, sym, subst}
 use Rattle.std.specs.List.{All, Any}
 use Rattle.std.proofs.lemmas.List.{get_or_default}
 use Rattle.std.proofs.lemmas.Option.{slice_get-get_or}
@@ -10,6 +10,10 @@ module _ {X : Type 0} {items : List X} (xs : List X) (same : items ≡ xs) (i : 
   -- it is the one at its place
   pub item_there : IsAtPlace xs i (get_or items i d)
   item_there = subst (λ (ys : List X). IsAtPlace ys i (get_or items i d)) same (slice_get-get_or items i d below)
+
+  -- by whatever default it is read
+  pub item_read : (e : X) → get_or xs i e ≡ get_or items i d
+  item_read e = subst (λ (ys : List X). get_or ys i e ≡ get_or items i d) same (get_or_default items i e d below)
 
   -- it is some item
   pub some_item : (P : X → Type 0) → P (get_or items i d) → Any P xs

@@ -1,5 +1,5 @@
 -- The rows of an area and its edges, place by place.
-use Rattle.std.proofs.Common.{◌≡◌, ℕ, zero, suc, Some, List, [], ◌∷◌, map, ap, refl, sym, subst}
+use Rattle.std.proofs.Common.{◌≡◌, ℕ, zero, suc, Some, List, [], ◌∷◌, ap, refl, sym, subst}
 use Rattle.plane_exact.specs.declared.point.Seg.{Seg}
 use Rattle.point_set.specs.declared.edge.Edge.{Edge}
 use Rattle.point_set.specs.declared.figure.Area.{Area}
@@ -7,10 +7,7 @@ use Rattle.point_set.specs.Validity.{IsAtPlace}
 use Rattle.figure_laws.proofs.Lists.Places.{some_same}
 use Rattle.valid_laws.specs.Entering.{edges_in}
 use Rattle.area_entry.specs.Grounds.{AreRowsOf}
-
--- the edges of rows
-abbrev pub segs_of_rows : List Edge → List Seg
-segs_of_rows rows = map (λ row. row.seg) rows
+use Rattle.area_entry.specs.RowSections.{segs_of_rows}
 
 -- the row of an edge
 pub record HasRow (rows : List Edge) (place : ℕ) (e : Seg) : Type 0 where

@@ -1,7 +1,6 @@
 -- The sections of rows at a point, one row more at a time; and what stands in the list.
-use Rattle.std.proofs.Common.{◌≡◌, ◌⊎◌, inl, inr, ℕ, zero, suc, ◌+◌, ◌<◌, Bool, true, false, List, [], ◌∷◌, ◌++◌, Some, length, take, append_assoc, append-nil, get_or, ap, refl, sym, ◌∙◌, subst, arith}
+use Rattle.std.proofs.Common.{◌≡◌, ℕ, zero, suc, Bool, true, false, List, [], ◌∷◌, ◌++◌, append_assoc, append-nil, ap, refl, sym, ◌∙◌, subst, arith}
 use Rattle.std.specs.List.{All, Any}
-use Rattle.std.proofs.lemmas.List.{take_more}
 use Rattle.std.proofs.lemmas.List.Elements.{All-append, All-cons, All-nil, All-head, All-tail}
 use Rattle.std.proofs.lemmas.Bool.Decides.{not_from_Decides}
 use Rattle.im_matrix.specs.declared.Which.TheVariants.{A}
@@ -16,8 +15,8 @@ use Rattle.point_set.specs.Validity.{IsAtPlace, IsOnEdge}
 use Rattle.figure_laws.proofs.Lists.Places.{some_same}
 use Rattle.figure_laws.proofs.Lists.Search.{any_left, any_right}
 use Rattle.fan_order.specs.declared.section.Section.{Section}
-use Rattle.fan_order.specs.Sections.{IsSectionOfEdge, AreToward, AreSectionsOf}
-use Rattle.area_entry.specs.RowSections.{AddsSectionsOfRow, AreSectionsOfRow, AreSectionsOfRows}
+use Rattle.fan_order.specs.Sections.{IsSectionOfEdge, AreToward}
+use Rattle.area_entry.specs.RowSections.{AreSectionsOfRow, AreSectionsOfRows}
 
 -- ---- one row more
 pub rows_more : (v : Point) (rows : List Edge) (row : Edge) (sections more : List Section) → AreSectionsOfRows v rows sections
@@ -139,15 +138,3 @@ rows_whole v (first ∷ rows) sections are zero row is on forward away =
 rows_whole v (first ∷ rows) sections are (suc place) row is on forward away =
     subst (λ (xs : List Section). Any (IsSectionOfEdge A row forward) xs) (sym are.2)
     (any_right (IsSectionOfEdge A row forward) are.0 are.1 (rows_whole v rows are.1 are.4 place row is on forward away))
-
--- ---- the loop over the rows
--- the row at a place is passed
-pub one_row_more : (v : Point) {items : List Edge} (rows : List Edge) → items ≡ rows → (i : ℕ) (d : Edge) → i < length items
-    → (old new : List Section) → AreSectionsOfRows v (take i rows) old → AddsSectionsOfRow v (get_or items i d) old new
-    → AreSectionsOfRows v (take (i + 1) rows) new
-one_row_more v {items} rows same i d below old new before adds =
-    subst (λ (xs : List Edge). AreSectionsOfRows v (take (i + 1) xs) new) same
-    (subst (λ (xs : List Edge). AreSectionsOfRows v xs new) (sym (take_more items i d below))
-    (subst (λ (xs : List Section). AreSectionsOfRows v (take i items ++ get_or items i d ∷ []) xs) (sym adds.new_is)
-    (rows_more v (take i items) (get_or items i d) old adds.more
-    (subst (λ (xs : List Edge). AreSectionsOfRows v (take i xs) old) (sym same) before) adds.are)))

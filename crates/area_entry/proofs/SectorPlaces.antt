@@ -1,11 +1,10 @@
 -- The sector of a direction among rays, found by going through the sectors but the first.
-use Rattle.std.proofs.Common.{◌≡◌, ◌⊎◌, inl, inr, ℕ, zero, suc, ◌+◌, ◌%◌, ◌<◌, ◌≤◌, List, [], ◌∷◌, length, refl, sym, subst, arith}
+use Rattle.std.proofs.Common.{◌≡◌, ℕ, zero, suc, ◌<◌, List, [], ◌∷◌, length, arith}
 use Rattle.std.specs.List.{AllPairs}
 use Rattle.std.specs.declared.cmp.Ordering.TheVariants.{Less}
-use Rattle.std.proofs.lemmas.Option.{slice_get_within}
 use Rattle.plane_exact.specs.Orders.{direction_of, compare_angles, IsSameDirection}
 use Rattle.plane_exact.specs.declared.dir.Dir.{Dir}
-use Rattle.plane_laws.specs.Directions.{Direction, IsStrictlyWithin}
+use Rattle.plane_laws.specs.Directions.{Direction}
 use Rattle.point_set.specs.Sectors.{IsInSector, sectors_of}
 use Rattle.point_set.specs.Validity.{IsAtPlace}
 use Rattle.germ_laws.proofs.Rays.Around.{Around, on_ray, in_sector, around}
@@ -15,7 +14,8 @@ abbrev pub NotBefore : List Dir → Direction → ℕ → Type 0
 NotBefore rays d i = (j : ℕ) → 0 < j → j < i → ¬ IsInSector rays j d
 
 -- what is in none of the others is in the first
-pub in_first : (rays : List Dir) → AllPairs (λ d e. compare_angles d e ≡ Less) rays → (d : Dir) → NotBefore rays (direction_of d) (length rays)
+pub in_first : (rays : List Dir) → AllPairs (λ d e. compare_angles d e ≡ Less) rays → (d : Dir)
+    → NotBefore rays (direction_of d) (length rays)
     → ((i : ℕ) (ray : Dir) → IsAtPlace rays i ray → ¬ IsSameDirection ray d) → IsInSector rays 0 (direction_of d)
 in_first [] ascending d none off = tt
 in_first (r ∷ rays) ascending d none off = go (around (r ∷ rays) ascending (direction_of d))

@@ -11,7 +11,7 @@ use Rattle.point_set.specs.declared.edge.Edge.{Edge}
 use Rattle.point_set.specs.declared.figure.Area.{Area}
 use Rattle.point_set.specs.Germ.{IsGerm}
 use Rattle.point_set.specs.Location.{location}
-use Rattle.point_set.specs.Rings.{is_on_edge, is_on_edges}
+use Rattle.point_set.specs.Rings.{is_on_edges}
 use Rattle.point_set.specs.Validity.{IsAtPlace, IsOnEdge, ShareSegment}
 use Rattle.valid_laws.specs.Entering.{edges_in, RunsAlong}
 
@@ -27,6 +27,12 @@ pub record RunsOnFrom (e f : Seg) (area : Area) (part : Loc) : Type 0 where
   pub v : Point
   pub there : IsOnEdge f v
   pub runs : RunsOn e area part v
+
+-- The same from a point of the edge of the row at a place.
+pub record RunsOnFromRow (e : Seg) (rows : List Edge) (area : Area) (part : Loc) (place : ℕ) : Type 0 where
+  pub row : Edge
+  pub row_is : IsAtPlace rows place row
+  pub from : RunsOnFrom e row.seg area part
 
 -- The same from some point of the area's edges.
 pub record RunsInto (area : Area) (part : Loc) (e : Seg) : Type 0 where

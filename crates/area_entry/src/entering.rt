@@ -1,6 +1,6 @@
 ghost use Rattle.std.specs.Prelude.{◌≡◌, ◌≢◌, ◌↔◌, ◌-ℤ◌, ◌<◌, ℕ, true, IsTrue, IfOk, All, length, map, List};
 ghost use Rattle.std.specs.List.{Any};
-ghost use Rattle.area_entry.specs.Entries.{BeginsIn, IsUnshared, RunsInto, RunsOn, RunsOnFrom};
+ghost use Rattle.area_entry.specs.Entries.{BeginsIn, IsUnshared, RunsInto, RunsOn, RunsOnFrom, RunsOnFromRow};
 ghost use Rattle.area_entry.specs.Grounds.{AreRowsOf};
 ghost use Rattle.area_entry.specs.RowSections.{AreOfOneArea, IsRowSound};
 ghost use Rattle.im_matrix.specs.declared.Loc.TheVariants as loc;
@@ -14,15 +14,16 @@ ghost use Rattle.point_set.specs.Validity.{EdgesShareSegment, IsAtPlace, IsOnEdg
 ghost use Rattle.valid_laws.specs.Entering.{edges_in, Enters, IsClean, IsSimpleRing};
 
 use crate::germ::part_along;
+use crate::near_rows::NearRows;
 use im_matrix::Loc;
-use plane_exact::{Dir, NoMemory, Node, Pt, cmp_nodes};
-use point_set::{Edge, EdgeRows};
+use plane_exact::{Dir, NoMemory, Node, PlaceList, Pt, cmp_nodes};
+use point_set::Edge;
 use seg_cross::{Meet, meet};
 use std::alloc::Global;
 use std::cmp::Ordering;
 
 /// Whether a ring enters a part of an area, its inside or its outside: some point of the ring lies there. The two have no
-/// segment in common. `ring` are the ring's edges in order, `first` is where its first position lies in the area, and `rows`
+/// segment in common. `ring` has the ring's edges in order, `first` is where its first position lies in the area, and `rows`
 /// are the area's edges with their hands.
 ///
 /// A ring that doesn't begin in the part enters it from a point of the area's edges.
@@ -31,8 +32,8 @@ use std::cmp::Ordering;
 /// `NoMemory`.
 pub fn enters(
     alloc: Global,
-    ring: &EdgeRows,
-    rows: &EdgeRows,
+    ring: &NearRows,
+    rows: &NearRows,
     first: Loc,
     part: Loc,
 ) -> Result<bool, NoMemory>
@@ -51,21 +52,21 @@ pub fn enters(
 }
 
 /// Whether a ring that has an edge begins in the part.
-fn begins_in(ring: &EdgeRows, first: Loc, part: Loc) -> bool
+fn begins_in(ring: &NearRows, first: Loc, part: Loc) -> bool
     ensures begins { IsTrue result ↔ ((first ≡ part) × (0 < length ring.now)) }
 {
-    first == part && ring.len() > 0
+    first == part && ring.rows().len() > 0
 }
 
 /// Whether an edge of the ring runs on into the part, from a point of the area's edges.
-fn runs_into(alloc: Global, ring: &EdgeRows, rows: &EdgeRows, part: Loc) -> Result<bool, NoMemory>
+fn runs_into(alloc: Global, ring: &NearRows, rows: &NearRows, part: Loc) -> Result<bool, NoMemory>
     requires ring_sound { All IsRowSound ring.now }
     requires sound { All IsRowSound rows.now }
     requires one_area { AreOfOneArea rows.now }
     ensures runs { IfOk result (λ b. (area : Area) → IsClean area → AreRowsOf area rows.now
         → All (λ row. IsUnshared area row.seg) ring.now → IsTrue b ↔ Any (λ row. RunsInto area part row.seg) ring.now) }
 {
-    for edge in ring.as_slice() {
+    for edge in ring.rows().as_slice() {
         if edge_runs_into(alloc, edge, rows, part)? {
             return Ok(true);
         }
@@ -74,19 +75,56 @@ fn runs_into(alloc: Global, ring: &EdgeRows, rows: &EdgeRows, part: Loc) -> Resu
 }
 
 /// Whether one edge runs on into the part, from a point of the area's edges.
-fn edge_runs_into(alloc: Global, edge: &Edge, rows: &EdgeRows, part: Loc) -> Result<bool, NoMemory>
+fn edge_runs_into(alloc: Global, edge: &Edge, rows: &NearRows, part: Loc) -> Result<bool, NoMemory>
     requires edge_sound { IsRowSound edge.now }
     requires sound { All IsRowSound rows.now }
     requires one_area { AreOfOneArea rows.now }
     ensures runs { IfOk result (λ b. (area : Area) → IsClean area → AreRowsOf area rows.now → IsUnshared area edge.now.seg
         → IsTrue b ↔ RunsInto area part edge.now.seg) }
 {
-    for row in rows.as_slice() {
-        if runs_on_from(alloc, edge, row, rows, part)? {
+    let places = rows.places_near(alloc, edge.seg)?;
+    runs_on_from_some(alloc, edge, &places, rows, part)
+}
+
+/// Whether an edge runs on into the part, from a point of one of the area's edges at some places.
+fn runs_on_from_some(
+    alloc: Global,
+    edge: &Edge,
+    places: &PlaceList,
+    rows: &NearRows,
+    part: Loc,
+) -> Result<bool, NoMemory>
+    requires edge_sound { IsRowSound edge.now }
+    requires places { All (λ place. place < length rows.now) places.now }
+    requires sound { All IsRowSound rows.now }
+    requires one_area { AreOfOneArea rows.now }
+    ensures runs { IfOk result (λ b. (area : Area) → IsClean area → AreRowsOf area rows.now → IsUnshared area edge.now.seg
+        → IsTrue b ↔ Any (RunsOnFromRow edge.now.seg rows.now area part) places.now) }
+{
+    for place in places.as_slice() {
+        if runs_on_from_row(alloc, edge, *place, rows, part)? {
             return Ok(true);
         }
     }
     Ok(false)
+}
+
+/// Whether an edge runs on into the part, from its point in common with the area's edge at a place.
+fn runs_on_from_row(
+    alloc: Global,
+    edge: &Edge,
+    place: u32,
+    rows: &NearRows,
+    part: Loc,
+) -> Result<bool, NoMemory>
+    requires edge_sound { IsRowSound edge.now }
+    requires place { place < length rows.now }
+    requires sound { All IsRowSound rows.now }
+    requires one_area { AreOfOneArea rows.now }
+    ensures runs { IfOk result (λ b. (area : Area) → IsClean area → AreRowsOf area rows.now → IsUnshared area edge.now.seg
+        → IsTrue b ↔ RunsOnFromRow edge.now.seg rows.now area part place) }
+{
+    runs_on_from(alloc, edge, rows.at(place), rows, part)
 }
 
 /// Whether an edge runs on into the part, from its point in common with one of the area's edges.
@@ -94,7 +132,7 @@ fn runs_on_from(
     alloc: Global,
     edge: &Edge,
     row: &Edge,
-    rows: &EdgeRows,
+    rows: &NearRows,
     part: Loc,
 ) -> Result<bool, NoMemory>
     requires edge_sound { IsRowSound edge.now }
@@ -116,7 +154,7 @@ fn runs_on(
     alloc: Global,
     edge: &Edge,
     n: &Node,
-    rows: &EdgeRows,
+    rows: &NearRows,
     part: Loc,
 ) -> Result<bool, NoMemory>
     requires edge_sound { IsRowSound edge.now }

@@ -4,7 +4,7 @@ ghost use Rattle.area_entry.specs.RowSections.{AreOfOneArea, IsRowSound};
 ghost use Rattle.point_set.specs.Edges.{area_of};
 
 use crate::entering::enters;
-use crate::sections::sections_at;
+use crate::near_rows::NearRows;
 use im_matrix::{Loc, Which};
 use plane_exact::{NoMemory, Node, Pt, Seg, in_limit};
 use point_set::{Edge, EdgeRows, Hand, Owner};
@@ -57,6 +57,13 @@ fn is_sound(row: &Edge) -> bool
 fn are_of_first(rows: &EdgeRows) -> bool
     ensures first { IsTrue result → AreOfOneArea rows.now }
 {
+    is_first_of_all(rows)
+}
+
+/// Whether each row is of the first area.
+fn is_first_of_all(rows: &EdgeRows) -> bool
+    ensures first { IsTrue result → All (λ row. area_of row.owner ≡ Some 0) rows.now }
+{
     rows.as_slice().iter().all(|row| is_of_first(row))
 }
 
@@ -66,34 +73,40 @@ fn is_of_first(row: &Edge) -> bool
     matches!(row.owner, Owner::Ring(0, _))
 }
 
-/// Whether a ring enters the inside of an area, and whether it enters the outside.
+/// Whether a ring enters the inside of an area, and whether it enters the outside. The area's rings come with their hands.
 fn assert_enters(
     rt: &impl Abort,
     alloc: Global,
     ring: &[(i64, i64)],
-    rows: &EdgeRows,
+    rings: &[(&[(i64, i64)], Hand)],
     first: Loc,
     parts: (bool, bool),
 ) -> Result<(), Fail> {
     let ring = rows_of(alloc, ring)?;
     assert!(rt; are_sound(&ring));
-    assert!(rt; are_sound(rows));
-    assert!(rt; are_of_first(rows));
-    let inside = enters(alloc, &ring, rows, first, Loc::Interior)?;
-    let outside = enters(alloc, &ring, rows, first, Loc::Exterior)?;
+    let mut rows = EdgeRows::new(alloc);
+    for (positions, hand) in rings {
+        add_ring(&mut rows, positions, *hand)?;
+    }
+    assert!(rt; are_sound(&rows));
+    assert!(rt; are_of_first(&rows));
+    let ring = NearRows::new(alloc, ring)?;
+    let rows = NearRows::new(alloc, rows)?;
+    let inside = enters(alloc, &ring, &rows, first, Loc::Interior)?;
+    let outside = enters(alloc, &ring, &rows, first, Loc::Exterior)?;
     assert_eq!(rt; (inside, outside), parts);
     Ok(())
 }
 
 #[test]
 fn rings_that_meet_a_square(rt: HostRuntime) -> Result<(), Fail> {
-    let rows = rows_of(rt.alloc(), &SQUARE)?;
+    let rings = [(&SQUARE[..], Hand::Left)];
     let through_corner = [(-2, -2), (4, 4), (-2, 4), (-2, -2)];
     assert_enters(
         &rt,
         rt.alloc(),
         &through_corner,
-        &rows,
+        &rings,
         Loc::Exterior,
         (true, true),
     )?;
@@ -102,7 +115,7 @@ fn rings_that_meet_a_square(rt: HostRuntime) -> Result<(), Fail> {
         &rt,
         rt.alloc(),
         &at_corner,
-        &rows,
+        &rings,
         Loc::Exterior,
         (false, true),
     )?;
@@ -111,7 +124,7 @@ fn rings_that_meet_a_square(rt: HostRuntime) -> Result<(), Fail> {
         &rt,
         rt.alloc(),
         &from_side_in,
-        &rows,
+        &rings,
         Loc::Boundary,
         (true, false),
     )?;
@@ -120,7 +133,7 @@ fn rings_that_meet_a_square(rt: HostRuntime) -> Result<(), Fail> {
         &rt,
         rt.alloc(),
         &from_side_out,
-        &rows,
+        &rings,
         Loc::Boundary,
         (false, true),
     )?;
@@ -129,7 +142,7 @@ fn rings_that_meet_a_square(rt: HostRuntime) -> Result<(), Fail> {
         &rt,
         rt.alloc(),
         &through_sides,
-        &rows,
+        &rings,
         Loc::Boundary,
         (true, true),
     )?;
@@ -138,28 +151,24 @@ fn rings_that_meet_a_square(rt: HostRuntime) -> Result<(), Fail> {
         &rt,
         rt.alloc(),
         &within,
-        &rows,
+        &rings,
         Loc::Interior,
         (true, false),
     )?;
     let far = [(20, 20), (24, 20), (20, 24), (20, 20)];
-    assert_enters(&rt, rt.alloc(), &far, &rows, Loc::Exterior, (false, true))
+    assert_enters(&rt, rt.alloc(), &far, &rings, Loc::Exterior, (false, true))
 }
 
 #[test]
 fn rings_that_meet_a_square_with_a_hole(rt: HostRuntime) -> Result<(), Fail> {
-    let mut rows = rows_of(rt.alloc(), &SQUARE)?;
-    add_ring(
-        &mut rows,
-        &[(2, 2), (6, 2), (6, 6), (2, 6), (2, 2)],
-        Hand::Right,
-    )?;
+    let hole = [(2, 2), (6, 2), (6, 6), (2, 6), (2, 2)];
+    let rings = [(&SQUARE[..], Hand::Left), (&hole[..], Hand::Right)];
     let in_hole = [(2, 2), (4, 3), (3, 4), (2, 2)];
     assert_enters(
         &rt,
         rt.alloc(),
         &in_hole,
-        &rows,
+        &rings,
         Loc::Boundary,
         (false, true),
     )?;
@@ -168,7 +177,7 @@ fn rings_that_meet_a_square_with_a_hole(rt: HostRuntime) -> Result<(), Fail> {
         &rt,
         rt.alloc(),
         &out_of_hole,
-        &rows,
+        &rings,
         Loc::Exterior,
         (true, true),
     )?;
@@ -177,7 +186,7 @@ fn rings_that_meet_a_square_with_a_hole(rt: HostRuntime) -> Result<(), Fail> {
         &rt,
         rt.alloc(),
         &round_hole,
-        &rows,
+        &rings,
         Loc::Interior,
         (true, false),
     )
@@ -192,7 +201,8 @@ fn sections_of_squares_that_share_a_corner(rt: HostRuntime) -> Result<(), Fail> 
         Hand::Right,
     )?;
     assert!(rt; are_sound(&rows));
-    let corner = sections_at(rt.alloc(), &rows, &Node::at_point(Pt { x: 4, y: 4 }))?;
+    let rows = NearRows::new(rt.alloc(), rows)?;
+    let corner = rows.sections_at(rt.alloc(), &Node::at_point(Pt { x: 4, y: 4 }))?;
     let mut found = Vec::new(rt.alloc());
     for section in corner.as_slice() {
         assert_eq!(rt; (section.which, section.area), (Which::A, Some(0)));
@@ -205,9 +215,9 @@ fn sections_of_squares_that_share_a_corner(rt: HostRuntime) -> Result<(), Fail> 
         (0, 2, Hand::Left),
     ];
     assert_eq!(rt; found.as_slice(), &expected[..]);
-    let side = sections_at(rt.alloc(), &rows, &Node::at_point(Pt { x: 3, y: 2 }))?;
+    let side = rows.sections_at(rt.alloc(), &Node::at_point(Pt { x: 3, y: 2 }))?;
     assert_eq!(rt; side.len(), 2);
-    let nowhere = sections_at(rt.alloc(), &rows, &Node::at_point(Pt { x: 3, y: 3 }))?;
+    let nowhere = rows.sections_at(rt.alloc(), &Node::at_point(Pt { x: 3, y: 3 }))?;
     assert_eq!(rt; nowhere.len(), 0);
     Ok(())
 }

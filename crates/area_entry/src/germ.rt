@@ -14,11 +14,10 @@ ghost use Rattle.point_set.specs.Sectors.{IsInSector, sectors_of};
 ghost use Rattle.point_set.specs.Validity.{IsAtPlace};
 ghost use Rattle.valid_laws.specs.Entering.{edges_in, IsClean};
 
-use crate::sections::sections_at;
+use crate::near_rows::NearRows;
 use fan_order::Fan;
 use im_matrix::{Loc, Which};
 use plane_exact::{Dir, NoMemory, Node, cmp_turn};
-use point_set::EdgeRows;
 use std::alloc::Global;
 use std::cmp::Ordering;
 
@@ -27,14 +26,14 @@ use std::cmp::Ordering;
 ///
 /// # Errors
 /// `NoMemory`.
-pub(crate) fn part_along(alloc: Global, rows: &EdgeRows, n: &Node, d: Dir) -> Result<Loc, NoMemory>
+pub(crate) fn part_along(alloc: Global, rows: &NearRows, n: &Node, d: Dir) -> Result<Loc, NoMemory>
     requires sound { All IsRowSound rows.now }
     requires one_area { AreOfOneArea rows.now }
     ensures germ { IfOk result (λ part. (area : Area) → IsClean area → AreRowsOf area rows.now
         → is_on_edges (point_at n.now) (edges_in area) ≡ true → IsFree area (point_at n.now) (direction_of d)
         → IsGerm area (point_at n.now) (direction_of d) part) }
 {
-    let sections = sections_at(alloc, rows, n)?;
+    let sections = rows.sections_at(alloc, n)?;
     let fan = Fan::gather(alloc, &sections)?;
     let sector = sector_of(&fan, d);
     if fan.is_inside(Which::A, sector) {

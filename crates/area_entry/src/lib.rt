@@ -5,7 +5,9 @@ mod entering;
 #[cfg(test)]
 mod entering_tests;
 mod germ;
+mod near_rows;
 mod sections;
 
 pub use entering::enters;
+pub use near_rows::NearRows;
 pub use sections::sections_at;

@@ -38,7 +38,7 @@ compare_positions-coordinates p q =
     λ i. ordering_then (int_cmp (sym (*ℤ_one p.x) i) (sym (*ℤ_one q.x) i)) (int_cmp (sym (*ℤ_one p.y) i) (sym (*ℤ_one q.y) i))
 
 -- positions that compare as equal are one
-same_positions : (p q : Pt) → compare_positions p q ≡ Equal → p ≡ q
+pub same_positions : (p q : Pt) → compare_positions p q ≡ Equal → p ≡ q
 same_positions p q e =
     let same : IsSamePoint (point_of p) (point_of q) = same_compare_points (point_of p) (point_of q) e in
     let x : p.x ≡ q.x = sym (*ℤ_one p.x) ∙ same.across ∙ *ℤ_one q.x in
@@ -46,7 +46,7 @@ same_positions p q e =
     λ i. record { x = x i; y = y i }
 
 -- one is at another exactly where they compare as equal
-is_at-position : (p q : Pt) → is_at (point_of p) q ≡ is_eq (compare_positions p q)
+pub is_at-position : (p q : Pt) → is_at (point_of p) q ≡ is_eq (compare_positions p q)
 is_at-position p q =
     let equal = Equal-is (compare_positions p q) in
     same_from_decides (is_at (point_of p) q) (is_eq (compare_positions p q)) (Decides-is_same_point (point_of p) (point_of q))

@@ -1,5 +1,5 @@
 -- The ends of lines, and how many of them are at a point.
-use Rattle.std.proofs.Common.{◌≡◌, ◌+◌, ◌-◌, ◌<◌, ◌≤◌, get_or, ◌∙◌, ℕ, suc, pos, Bool, true, false, cond, Some, List, [], ◌∷◌, ◌++◌, length, drop, refl, sym, ap, subst, arith}
+use Rattle.std.proofs.Common.{◌≡◌, ◌+◌, ◌-◌, ◌<◌, ◌≤◌, get_or, ◌∙◌, ℕ, suc, Bool, true, false, cond, Some, List, [], ◌∷◌, ◌++◌, length, drop, refl, sym, ap, subst, arith}
 use Rattle.std.specs.Prelude.{slice_get, sum_by}
 use Rattle.std.specs.List.{list_all}
 use Rattle.std.specs.List.Sorted.{IsPermutation}
@@ -11,7 +11,7 @@ use Rattle.plane_laws.proofs.Points.Same.{Decides-is_same_point}
 use Rattle.plane_exact.proofs.Laws.{node_at_position}
 use Rattle.plane_exact.specs.NodePoints.{point_at}
 use Rattle.plane_exact.specs.Places.{point_of}
-use Rattle.plane_laws.specs.Plane.{Point, IsSamePoint}
+use Rattle.plane_laws.specs.Plane.{Point}
 use Rattle.plane_exact.specs.declared.node.Node.{Node}
 use Rattle.plane_exact.specs.declared.point.Pt.{Pt}
 use Rattle.point_set.specs.Lines.{last_after, is_still, ends_of, ends_of_lines, is_at, count_at}

@@ -5,8 +5,6 @@ ghost use Rattle.plane_exact.specs.NodePoints.{point_at};
 ghost use Rattle.plane_exact.specs.Places.{point_of};
 ghost use Rattle.point_set.specs.Lines.{ends_of, ends_of_lines, count_at};
 ghost use Rattle.point_set.specs.Rings.{is_same_position};
-ghost use Rattle.point_set.specs.declared.figure.Figure.{Figure};
-ghost use Rattle.bound_rule.specs.Ends.{AreEndsOf};
 
 use crate::position::Position;
 use plane_exact::{NoMemory, Node, Path, Pt};
@@ -17,11 +15,11 @@ use std::marker::Model;
 
 /// The ends of the lines of a figure: at each position as many as lines begin or end there.
 #[derive(Debug, Drop)]
-pub struct EndTable {
+pub(crate) struct EndCounts {
     counts: BTreeMap<Position, u32>,
 }
 
-impl Model for EndTable {
+impl Model for EndCounts {
     ghost use Rattle.std.specs.Prelude.{List};
     ghost use Rattle.std.specs.List.Sorted.{IsStrictlySortedBy};
     ghost use Rattle.std.specs.Map.{keys_of};
@@ -36,16 +34,16 @@ impl Model for EndTable {
     ghost invariant = { λ t. IsStrictlySortedBy compare_positions (keys_of t.counts.entries) };
 }
 
-impl EndTable {
+impl EndCounts {
     /// The ends of all lines of the figure. A closed line gives two at its start, and a line whose positions are all equal
     /// gives none.
     ///
     /// # Errors
     /// `NoMemory`.
-    pub fn build(alloc: Global, v: &Valid) -> Result<EndTable, NoMemory>
-        ensures ends { IfOk result (AreEndsOf v.now) }
+    pub(crate) fn build(alloc: Global, v: &Valid) -> Result<EndCounts, NoMemory>
+        ensures ends { IfOk result (IsPermutation (ends_of_lines v.now.lines)) }
     {
-        let mut table = EndTable {
+        let mut table = EndCounts {
             counts: BTreeMap::new(alloc),
         };
         for line in v.figure().lines.as_slice() {
@@ -55,9 +53,8 @@ impl EndTable {
     }
 
     /// How many line ends are at the node. Takes no memory.
-    pub fn count(&self, n: &Node) -> u32
+    pub(crate) fn count(&self, n: &Node) -> u32
         ensures count { result ≡ count_at (point_at n.now) self.now }
-        ensures figure { (f : Figure) → AreEndsOf f self.now → result ≡ count_at (point_at n.now) (ends_of_lines f.lines) }
     {
         match n.position() {
             Some(p) => self.count_at_position(p),
@@ -110,7 +107,8 @@ fn two_ends(line: &Path) -> Option<(Pt, Pt)>
     Some((*first, *others.last()?))
 }
 
-fn are_all_at(first: Pt, others: &[Pt]) -> bool
+/// Whether all of the positions are the first one.
+pub(crate) fn are_all_at(first: Pt, others: &[Pt]) -> bool
     ensures still { result ≡ list_all (is_same_position first) others.now }
 {
     others.iter().all(|p| first.x == p.x && first.y == p.y)

@@ -15,10 +15,10 @@ fn line(alloc: Global, positions: &[(i64, i64)]) -> Result<Path, NoMemory> {
     Ok(path)
 }
 
-/// The figure of some lines, or None where it isn't well shaped.
-fn sealed(alloc: Global, lines: Paths) -> Option<Valid> {
+/// The figure of some points and lines, or None where it isn't well shaped.
+fn sealed(alloc: Global, points: Path, lines: Paths) -> Option<Valid> {
     let figure = Figure {
-        points: Path::new(alloc),
+        points,
         lines,
         areas: Areas::new(alloc),
     };
@@ -35,6 +35,12 @@ fn count_at(table: &EndTable, p: Pt) -> u32
     table.count(&Node::at_point(p))
 }
 
+fn is_spot(table: &EndTable, p: Pt) -> bool
+    requires limit { IsInLimit p }
+{
+    table.is_spot(&Node::at_point(p))
+}
+
 const ORIGIN: Pt = Pt { x: 0, y: 0 };
 
 #[test]
@@ -43,7 +49,7 @@ fn three_lines_from_one_position(rt: HostRuntime) -> Result<(), Fail> {
     lines.push(line(rt.alloc(), &[(0, 0), (1, 0)])?)?;
     lines.push(line(rt.alloc(), &[(0, 0), (0, 1)])?)?;
     lines.push(line(rt.alloc(), &[(0, 0), (-1, 0)])?)?;
-    let figure = sealed(rt.alloc(), lines).ok_or("not well shaped")?;
+    let figure = sealed(rt.alloc(), Path::new(rt.alloc()), lines).ok_or("not well shaped")?;
     let table = EndTable::build(rt.alloc(), &figure)?;
     assert_eq!(rt; count_at(&table, ORIGIN), 3);
     assert_eq!(rt; count_at(&table, Pt { x: 1, y: 0 }), 1);
@@ -57,10 +63,27 @@ fn a_closed_line_and_a_still_one(rt: HostRuntime) -> Result<(), Fail> {
     let mut lines = Paths::new(rt.alloc());
     lines.push(line(rt.alloc(), &[(0, 0), (4, 0), (4, 4), (0, 0)])?)?;
     lines.push(line(rt.alloc(), &[(4, 0), (4, 0), (4, 0)])?)?;
-    let figure = sealed(rt.alloc(), lines).ok_or("not well shaped")?;
+    let figure = sealed(rt.alloc(), Path::new(rt.alloc()), lines).ok_or("not well shaped")?;
     let table = EndTable::build(rt.alloc(), &figure)?;
     assert_eq!(rt; count_at(&table, ORIGIN), 2);
     assert_eq!(rt; count_at(&table, Pt { x: 4, y: 0 }), 0);
+    Ok(())
+}
+
+#[test]
+fn points_and_still_lines_are_spots(rt: HostRuntime) -> Result<(), Fail> {
+    let points = line(rt.alloc(), &[(1, 1), (7, 7)])?;
+    let mut lines = Paths::new(rt.alloc());
+    lines.push(line(rt.alloc(), &[(0, 0), (4, 0)])?)?;
+    lines.push(line(rt.alloc(), &[(2, 3), (2, 3), (2, 3)])?)?;
+    let figure = sealed(rt.alloc(), points, lines).ok_or("not well shaped")?;
+    let table = EndTable::build(rt.alloc(), &figure)?;
+    assert_eq!(rt; is_spot(&table, Pt { x: 1, y: 1 }), true);
+    assert_eq!(rt; is_spot(&table, Pt { x: 7, y: 7 }), true);
+    assert_eq!(rt; is_spot(&table, Pt { x: 2, y: 3 }), true);
+    assert_eq!(rt; is_spot(&table, ORIGIN), false);
+    assert_eq!(rt; is_spot(&table, Pt { x: 4, y: 0 }), false);
+    assert_eq!(rt; table.is_spot(&Node::reduce(3, 3, 2)), false);
     Ok(())
 }
 

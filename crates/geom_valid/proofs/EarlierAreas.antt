@@ -1,5 +1,5 @@
 -- Areas of a figure and the earlier ones of their group.
-use Rattle.std.proofs.Common.{◌≡◌, ℕ, ◌<◌, ◌≤◌, List, refl, sym, ◌∙◌, subst, subst₂, ap, arith}
+use Rattle.std.proofs.Common.{◌≡◌, ℕ, ◌<◌, ◌≤◌, List, length, refl, sym, ◌∙◌, subst, subst₂, ap, arith}
 use Rattle.std.specs.List.{All}
 use Rattle.plane_exact.specs.declared.point.Pt.{Pt}
 use Rattle.point_set.specs.declared.figure.Area.{Area}
@@ -7,6 +7,7 @@ use Rattle.point_set.specs.declared.figure.Figure.{Figure}
 use Rattle.point_set.specs.Shape.{IsAreaShaped, IsWellShaped}
 use Rattle.point_set.specs.Validity.{IsAtPlace, SomeArea, SomeEarlier, SomeRing, AreasShareSegment, AreasOverlap, HasTooFewPoints, CrossesItself, RingsShareSegment, HasHoleOutside, HasHolesThatOverlap, HasTouchCycle, too_few_points, ring_cross, rings_share_edge, hole_outside, holes_overlap, disconnected, elements_share_edge, elements_overlap}
 use Rattle.figure_laws.proofs.Lists.Places.{all_at, some_same}
+use Rattle.ring_sides.proofs.Rows.{few_holes}
 use Rattle.geom_valid.specs.Faults.{IsSoundAt, IsSoundUpTo}
 use Rattle.geom_valid.specs.Grounds.{IsSoundArea}
 use Rattle.geom_valid.proofs.FirstFaults.{none_here, sound_at_first, sound_at_last, sound_on}
@@ -28,9 +29,10 @@ earlier_at f place before area other IsSo earlier at other_at same so =
 
 -- ---- sound areas
 -- an area whose rings are so that none of the first five clauses fails
-pub sound_from : (area : Area) → IsAreaShaped area → ¬ SomeRing HasTooFewPoints area → ¬ SomeRing CrossesItself area → ¬ RingsShareSegment area
+pub sound_from : (area : Area) → length area.holes ≤ 1048576 → IsAreaShaped area → ¬ SomeRing HasTooFewPoints area → ¬ SomeRing CrossesItself area → ¬ RingsShareSegment area
     → ¬ HasHoleOutside area → ¬ HasHolesThatOverlap area → IsSoundArea area
-sound_from area shaped few crossed unshared within unlapped = record {
+sound_from area holes shaped few crossed unshared within unlapped = record {
+  few = holes;
   clean = record { shaped = shaped; simple = no_ring CrossesItself area crossed; unshared = unshared; within = within; unlapped = unlapped };
   enough = no_ring HasTooFewPoints area few;
 }
@@ -41,7 +43,7 @@ shaped_at f shaped place area at = all_at IsAreaShaped f.areas place area shaped
 -- so is one that fails no clause
 pub sound_at : (f : Figure) → IsWellShaped f → (place : ℕ) (area : Area) → IsAtPlace f.areas place area → IsSoundAt f place → IsSoundArea area
 sound_at f shaped place area at sound =
-    sound_from area (shaped_at f shaped place area at) (λ h. sound too_few_points (some h)) (λ h. sound ring_cross (some h))
+    sound_from area (few_holes f shaped place area at) (shaped_at f shaped place area at) (λ h. sound too_few_points (some h)) (λ h. sound ring_cross (some h))
     (λ h. sound rings_share_edge (some h)) (λ h. sound hole_outside (some h)) (λ h. sound holes_overlap (some h))
   where
     some : {IsSo : Area → Type 0} → IsSo area → SomeArea f place IsSo

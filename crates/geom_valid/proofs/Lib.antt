@@ -1,5 +1,7 @@
 pub mod RingLists
-pub mod Entries
+pub mod ByEntering
 pub mod EarlierAreas
+pub mod GroundRows
+pub mod RingBoxes
 pub mod FirstFaults
 pub mod Laws

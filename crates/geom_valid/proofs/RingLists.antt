@@ -3,7 +3,6 @@ use Rattle.std.proofs.Common.{◌≡◌, ◌⊎◌, inl, inr, ℕ, zero, suc, �
 use Rattle.std.specs.Prelude.{slice_get, IsTrue, ◌↔◌}
 use Rattle.std.specs.List.{All, Any}
 use Rattle.std.proofs.lemmas.Bool.{cases_eq}
-use Rattle.std.proofs.lemmas.List.{get_or_default}
 use Rattle.std.proofs.lemmas.Option.{slice_get_read, slice_get_within, get_or_from_slice_get}
 use Rattle.plane_exact.specs.declared.point.Pt.{Pt}
 use Rattle.point_set.specs.declared.figure.Area.{Area}
@@ -11,13 +10,9 @@ use Rattle.point_set.specs.Location.{rings_of}
 use Rattle.point_set.specs.Shape.{IsRingShaped, IsAreaShaped}
 use Rattle.point_set.specs.Validity.{IsAtPlace, SomeRing}
 use Rattle.figure_laws.proofs.Lists.Places.{some_same, all_at}
+use Rattle.ring_sides.proofs.Rows.{all_from_places}
 
 -- ---- items by their places
--- what holds of the item at each place holds of all
-pub all_from_places : {X : Type 0} (P : X → Type 0) (xs : List X) → ((i : ℕ) (x : X) → IsAtPlace xs i x → P x) → All P xs
-all_from_places P xs h i d below =
-    h i (get_or xs i d) (slice_get_read xs (length xs) i (get_or xs i d) refl below (get_or_default xs i d (get_or xs i d) below))
-
 -- no item before a place is so
 abbrev pub NoneBefore : {X : Type 0} (IsSo : X → Type 0) → List X → ℕ → Type 0
 NoneBefore {X} IsSo xs i = (k : ℕ) (x : X) → k < i → IsAtPlace xs k x → ¬ IsSo x

@@ -1,5 +1,5 @@
 -- Areas and rings with the rows of their edges.
-use Rattle.std.specs.Prelude.{ℕ, ◌<◌, List}
+use Rattle.std.specs.Prelude.{ℕ, ◌<◌, ◌≤◌, List, length}
 use Rattle.std.specs.List.{All}
 use Rattle.plane_exact.specs.declared.point.Pt.{Pt}
 use Rattle.point_set.specs.declared.edge.Edge.{Edge}
@@ -17,8 +17,9 @@ pub record IsDisc (ring : List Pt) (rows : List Edge) : Type 0 where
   pub sound : All IsRowSound rows
   pub one_area : AreOfOneArea rows
 
--- A clean area of which each ring has three distinct positions.
+-- A clean area of which each ring has three distinct positions, with no more holes than a figure can have.
 pub record IsSoundArea (area : Area) : Type 0 where
+  pub few : length area.holes ≤ 1048576
   pub clean : IsClean area
   pub enough : All (λ ring. ¬ HasTooFewPoints ring) (rings_of area)
 

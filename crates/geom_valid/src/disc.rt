@@ -1,9 +1,8 @@
 use crate::rows::ring_rows;
-use area_entry::enters;
+use area_entry::{NearRows, enters};
 use area_locator::ring_locate;
 use im_matrix::Loc;
 use plane_exact::{NoMemory, Node, Path};
-use point_set::EdgeRows;
 use std::alloc::Global;
 use std::marker::Model;
 
@@ -11,7 +10,7 @@ use std::marker::Model;
 #[derive(Debug, Drop)]
 pub(crate) struct Disc<'a> {
     pub(crate) ring: &'a Path,
-    pub(crate) rows: EdgeRows,
+    pub(crate) rows: NearRows,
 }
 
 impl<'a> Model for Disc<'a> {
@@ -44,7 +43,7 @@ impl<'a> Disc<'a> {
         requires simple { ¬ CrossesItself ring.now }
         ensures ring { IfOk result (λ disc. disc ≡ ring.now) }
     {
-        let rows = ring_rows(alloc, ring)?;
+        let rows = NearRows::new(alloc, ring_rows(alloc, ring)?)?;
         Ok(Disc { ring, rows })
     }
 

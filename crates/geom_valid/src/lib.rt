@@ -10,6 +10,8 @@ mod kinds;
 mod ring_set;
 mod rows;
 mod sound_area;
+#[cfg(test)]
+mod tests;
 
 pub use admission::admit;
 pub use kinds::{AdmitFault, InvalidKind};

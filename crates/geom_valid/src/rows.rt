@@ -7,7 +7,8 @@ ghost use Rattle.point_set.specs.Validity.{CrossesItself, HasTooFewPoints};
 ghost use Rattle.valid_laws.specs.Entering.{disc_of};
 
 use plane_exact::{NoMemory, Path};
-use point_set::{Area, EdgeRows};
+use point_set::{Area, EdgeRows, Owner};
+use ring_sides::{add_area, add_ring};
 use std::alloc::Global;
 
 /// The edges of a ring, each with the hand on which the ring's inside lies.
@@ -19,9 +20,9 @@ pub(crate) fn ring_rows(alloc: Global, ring: &Path) -> Result<EdgeRows, NoMemory
     ensures one_area { IfOk result AreOfOneArea }
     ensures sound { IfOk result (All IsRowSound) }
 {
-    let _ = alloc;
-    let _ = ring.len();
-    Err(NoMemory)
+    let mut rows = EdgeRows::new(alloc);
+    add_ring(&mut rows, ring, Owner::Ring(0, 0))?;
+    Ok(rows)
 }
 
 /// The edges of an area, each with the hand on which the inside of the area lies.
@@ -31,7 +32,7 @@ pub(crate) fn area_rows(alloc: Global, area: &Area) -> Result<EdgeRows, NoMemory
     ensures one_area { IfOk result AreOfOneArea }
     ensures sound { IfOk result (All IsRowSound) }
 {
-    let _ = alloc;
-    let _ = area.holes.len();
-    Err(NoMemory)
+    let mut rows = EdgeRows::new(alloc);
+    add_area(&mut rows, area, 0)?;
+    Ok(rows)
 }

@@ -1,11 +1,10 @@
 use crate::disc::Disc;
 use crate::ring_set::RingSet;
 use crate::rows::area_rows;
-use area_entry::enters;
+use area_entry::{NearRows, enters};
 use area_locator::locate_plain;
 use im_matrix::Loc;
 use plane_exact::NoMemory;
-use point_set::EdgeRows;
 use std::alloc::Global;
 use std::marker::Model;
 
@@ -13,7 +12,7 @@ use std::marker::Model;
 #[derive(Debug, Drop)]
 pub(crate) struct SoundArea<'a> {
     rings: RingSet<'a>,
-    rows: EdgeRows,
+    rows: NearRows,
 }
 
 impl<'a> Model for SoundArea<'a> {
@@ -40,7 +39,7 @@ impl<'a> SoundArea<'a> {
         requires sound { IsSoundArea rings }
         ensures area { IfOk result (λ sound. sound ≡ rings.entry) }
     {
-        let rows = area_rows(alloc, rings.area())?;
+        let rows = NearRows::new(alloc, area_rows(alloc, rings.area())?)?;
         Ok(SoundArea { rings, rows })
     }
 

@@ -3,8 +3,8 @@ use Rattle.std.proofs.Common.{◌≡◌, ℕ, zero, suc, ◌+◌, ◌<◌, ◌�
 use Rattle.std.specs.List.{All}
 use Rattle.std.proofs.Math.Seq.{drop-cons}
 use Rattle.std.proofs.lemmas.Option.{slice_get_read, get_or_from_slice_get, slice_get_within}
-use Rattle.std.proofs.lemmas.List.{append_assoc, append-nil, map-append, drop_all}
-use Rattle.std.proofs.lemmas.List.Elements.{All-nil, All-cons, All-head, All-tail, All-append, All-same}
+use Rattle.std.proofs.lemmas.List.{append_assoc, append-nil, map-append, get_or_default, get_or-map, length-map}
+use Rattle.std.proofs.lemmas.List.Elements.{All-nil, All-cons, All-append, All-same}
 use Rattle.plane_exact.specs.declared.point.Pt.{Pt}
 use Rattle.plane_exact.specs.declared.point.Seg.{Seg}
 use Rattle.point_set.specs.declared.edge.Edge.{Edge}
@@ -21,8 +21,8 @@ use Rattle.point_set.specs.Sides.{IsInsideHand, other_hand}
 use Rattle.point_set.specs.Validity.{IsAtPlace, IsValid, HasTooFewPoints, CrossesItself, too_few_points, ring_cross}
 use Rattle.figure_laws.proofs.Lists.Counts.{count_by_length, one_of_sum}
 use Rattle.figure_laws.proofs.Lists.Places.{some_same}
-use Rattle.side_laws.proofs.Areas.Hands.{area_shaped, area_clean, shell_hand, hole_hand}
-use Rattle.ring_sides.specs.Rows.{owned_edge, owned_edges, row_of, HasItsHand}
+use Rattle.side_laws.proofs.Areas.Hands.{AreRingsClean, area_shaped, shell_hand}
+use Rattle.ring_sides.specs.Rows.{owned_edge, owned_edges, row_of, AddsArea, AddsRing, AddsRings, HasItsHand}
 
 -- ---- lists from a place on
 at_drop : {X : Type 0} (xs : List X) (i : ℕ) (x : X) → IsAtPlace xs i x → drop i xs ≡ x ∷ drop (i + 1) xs
@@ -32,10 +32,7 @@ at_drop xs i x is =
 pub lines_from : (lines : List (List Pt)) (i : ℕ) (line : List Pt) → IsAtPlace lines i line → edges_of_lines i (drop i lines) ≡ owned_by (Line i) (edges_of line) ++ edges_of_lines (i + 1) (drop (i + 1) lines)
 lines_from lines i line is = ap (edges_of_lines i) (at_drop lines i line is)
 
-pub rings_from : (place : ℕ) (rings : List (List Pt)) (i k : ℕ) (ring : List Pt) → IsAtPlace rings i ring → edges_of_area_rings place k (drop i rings) ≡ owned_by (Ring place k) (edges_of ring) ++ edges_of_area_rings place (k + 1) (drop (i + 1) rings)
-rings_from place rings i k ring is = ap (edges_of_area_rings place k) (at_drop rings i ring is)
-
-pub areas_from : (areas : List Area) (i : ℕ) (area : Area) → IsAtPlace areas i area → edges_of_areas i (drop i areas) ≡ edges_of_area_rings i 0 (rings_of area) ++ edges_of_areas (i + 1) (drop (i + 1) areas)
+areas_from : (areas : List Area) (i : ℕ) (area : Area) → IsAtPlace areas i area → edges_of_areas i (drop i areas) ≡ edges_of_area_rings i 0 (rings_of area) ++ edges_of_areas (i + 1) (drop (i + 1) areas)
 areas_from areas i area is = ap (edges_of_areas i) (at_drop areas i area is)
 
 -- ---- rows with one owner and one hand
@@ -60,24 +57,6 @@ more_hands f old new owner side edges h hands good =
     All-same (HasItsHand f) new (old ++ map (row_of owner side) edges) h
     (All-append (HasItsHand f) old (map (row_of owner side) edges) hands (all_rows (HasItsHand f) owner side edges good))
 
--- ---- a valid figure's rings
-pub ring_enough : (f : Figure) → IsValid f → (place : ℕ) (area : Area) → IsAtPlace f.areas place area → (k : ℕ) (ring : List Pt) → IsAtPlace (rings_of area) k ring → ¬ HasTooFewPoints ring
-ring_enough f valid place area is k ring is_ring few =
-    valid place too_few_points (record { area = area; area_is = is; is_so = record { place = k; ring = ring; ring_is = is_ring; is_so = few } })
-
-pub ring_simple : (f : Figure) → IsValid f → (place : ℕ) (area : Area) → IsAtPlace f.areas place area → (k : ℕ) (ring : List Pt) → IsAtPlace (rings_of area) k ring → ¬ CrossesItself ring
-ring_simple f valid place area is k ring is_ring crossed =
-    valid place ring_cross (record { area = area; area_is = is; is_so = record { place = k; ring = ring; ring_is = is_ring; is_so = crossed } })
-
-pub shell_has_hand : (f : Figure) → IsWellShaped f → IsValid f → (place : ℕ) (area : Area) → IsAtPlace f.areas place area → (side : Hand) → IsInsideHand area.shell side → (i : ℕ) (e : Seg) → IsAtPlace (edges_of area.shell) i e → HasHand f (Ring place 0) e side
-shell_has_hand f shaped valid place area is side inside i e is_e other is_other =
-    subst (λ a. IsAreaHand a e side) (some_same (sym is ∙ is_other)) (shell_hand area (area_clean f shaped valid place area is) side inside i e is_e)
-
-pub hole_has_hand : (f : Figure) → IsWellShaped f → IsValid f → (place : ℕ) (area : Area) → IsAtPlace f.areas place area → (k : ℕ) (hole : List Pt) → IsAtPlace area.holes k hole → (side : Hand) → IsInsideHand hole side → (i : ℕ) (e : Seg) → IsAtPlace (edges_of hole) i e → HasHand f (Ring place (k + 1)) e (other_hand side)
-hole_has_hand f shaped valid place area is k hole is_hole side inside i e is_e other is_other =
-    subst (λ a. IsAreaHand a e (other_hand side)) (some_same (sym is ∙ is_other))
-    (hole_hand area (area_clean f shaped valid place area is) k hole is_hole side inside i e is_e)
-
 -- ---- how many holes there are
 pub few_holes : (f : Figure) → IsWellShaped f → (place : ℕ) (area : Area) → IsAtPlace f.areas place area → length area.holes ≤ 1048576
 few_holes f shaped place area is =
@@ -86,47 +65,98 @@ few_holes f shaped place area is =
     let holes = count_by_length length area.holes (λ i d below. let long = ((area_shaped f shaped place area is).holes i d below).long in omega (arith, long)) in
     omega (arith, few, own, holes)
 
--- ---- what a pass reads
--- what is said of the area at a place holds of every area there
-pub of_area_at : (P : Area → Type 0) (areas : List Area) (place : ℕ) (area : Area) → IsAtPlace areas place area → P area → (other : Area) → IsAtPlace areas place other → P other
-of_area_at P areas place area is held other is_other = subst P (some_same (sym is ∙ is_other)) held
+-- ---- one area on
+pub area_step : (first : List OwnedEdge) (areas : List Area) (place : ℕ) (area : Area) → IsAtPlace areas place area → (old new : List Edge) → AddsArea area place old new → first ≡ owned_edges old ++ edges_of_areas place (drop place areas) → first ≡ owned_edges new ++ edges_of_areas (place + 1) (drop (place + 1) areas)
+area_step first areas place area is old new so h =
+    let own = edges_of_area_rings place 0 (rings_of area) in
+    let rest = edges_of_areas (place + 1) (drop (place + 1) areas) in
+    h ∙ ap (λ z. owned_edges old ++ z) (areas_from areas place area is)
+    ∙ sym (append_assoc (owned_edges old) own rest)
+    ∙ ap (λ z. z ++ rest) (ap (λ z. owned_edges old ++ z) (sym so.edges) ∙ sym (map-append owned_edge old so.more) ∙ ap owned_edges (sym so.joined))
 
-pub area_read : (seen f : Figure) (place : ℕ) (area : Area) → seen ≡ f → place < length f.areas → area ≡ get_or seen.areas place area → IsAtPlace f.areas place area
-area_read seen f place area same below is =
-    subst (λ g. IsAtPlace g.areas place area) same
-    (slice_get_read seen.areas (length seen.areas) place area refl (subst (λ g. place < length g.areas) (sym same) below) is)
+-- ---- the rows of an area's rings
+-- the hand of each new row of a ring
+ring_hands : (area : Area) (owner : Owner) (side : Hand) (edges : List Seg) → ((i : ℕ) (e : Seg) → IsAtPlace edges i e → IsAreaHand area e side) → All (λ row. IsAreaHand area row.seg row.hand) (map (row_of owner side) edges)
+ring_hands area owner side edges h = all_rows (λ row. IsAreaHand area row.seg row.hand) owner side edges h
 
--- a list has an item at each place within its length
-record HasItem {X : Type 0} (xs : List X) (i : ℕ) : Type 0 where
-  item : X
-  is : IsAtPlace xs i item
+pub nothing_added : (area : Area) (place first : ℕ) (rows : List Edge) → AddsRings area place first [] rows rows
+nothing_added area place first rows =
+    record { more = []; joined = sym (append-nil rows); edges = refl; hands = All-nil (λ row. IsAreaHand area row.seg row.hand) }
 
-some_item : {X : Type 0} (xs : List X) (i : ℕ) → i < length xs → HasItem xs i
-some_item [] i below = absurd (omega arith)
-some_item (x ∷ xs) zero below = record { item = x; is = refl }
-some_item (x ∷ xs) (suc i) below = let h = some_item xs i (omega arith) in record { item = h.item; is = h.is }
-
-pub ring_later : (area : Area) (i : ℕ) (hole : List Pt) → IsAtPlace area.holes i hole → IsAtPlace (rings_of area) (i + 1) hole
-ring_later area i hole is = subst (λ k. IsAtPlace (rings_of area) k hole) (sym (add-one i)) is
-
--- at the end of a pass over holes there are none left
-pub holes_passed : (place i : ℕ) (items holes : List (List Pt)) (old new : List OwnedEdge) → items ≡ holes → length items ≤ i → old ++ edges_of_area_rings place 1 items ≡ new ++ edges_of_area_rings place (i + 1) (drop i items) → new ≡ old ++ edges_of_area_rings place 1 holes
-holes_passed place i items holes old new same past h =
-    sym (append-nil new) ∙ ap (λ left. new ++ edges_of_area_rings place (i + 1) left) (sym (drop_all i items past)) ∙ sym h
-    ∙ ap (λ rings. old ++ edges_of_area_rings place 1 rings) same
-
--- the rows of a shell, and then those of the holes
-pub shell_then_holes : (place : ℕ) (area : Area) (old mid new : List Edge) (side : Hand) → mid ≡ old ++ map (row_of (Ring place 0) side) (edges_of area.shell) → owned_edges new ≡ owned_edges mid ++ edges_of_area_rings place 1 area.holes → owned_edges new ≡ owned_edges old ++ edges_of_area_rings place 0 (rings_of area)
-shell_then_holes place area old mid new side h k =
-    k ∙ sym (more_rows (owned_edges old ++ edges_of_area_rings place 0 (rings_of area)) (edges_of_area_rings place 0 (rings_of area)) (edges_of_area_rings place 1 area.holes)
-    old mid (Ring place 0) side (edges_of area.shell) h refl refl)
-
--- one area on
-pub area_step : (first : List OwnedEdge) (areas : List Area) (place : ℕ) (old new : List Edge) → place < length areas → ((area : Area) → IsAtPlace areas place area → owned_edges new ≡ owned_edges old ++ edges_of_area_rings place 0 (rings_of area)) → first ≡ owned_edges old ++ edges_of_areas place (drop place areas) → first ≡ owned_edges new ++ edges_of_areas (place + 1) (drop (place + 1) areas)
-area_step first areas place old new below more h = by_item (some_item areas place below)
+-- one ring more, behind those so far
+pub ring_added : (area : Area) (place first : ℕ) (rings : List (List Pt)) (ring : List Pt) (k : ℕ) → k ≡ first + length rings → (side : Hand) → ((i : ℕ) (e : Seg) → IsAtPlace (edges_of ring) i e → IsAreaHand area e side) → (old mid new : List Edge) → AddsRings area place first rings old mid → new ≡ mid ++ map (row_of (Ring place k) side) (edges_of ring) → AddsRings area place first (rings ++ ring ∷ []) old new
+ring_added area place first rings ring k k_is side hands old mid new so h =
+    let own = map (row_of (Ring place k) side) (edges_of ring) in
+    record {
+      more = so.more ++ own;
+      joined = h ∙ ap (λ rows. rows ++ own) so.joined ∙ append_assoc old so.more own;
+      edges = map-append owned_edge so.more own ∙ ap (λ os. os ++ owned_edges own) so.edges
+          ∙ ap (λ os. edges_of_area_rings place first rings ++ os) (owned_rows (Ring place k) side (edges_of ring))
+          ∙ sym (last_ring first rings k_is);
+      hands = All-append (λ row. IsAreaHand area row.seg row.hand) so.more own so.hands (ring_hands area (Ring place k) side (edges_of ring) hands);
+    }
   where
-    by_item : HasItem areas place → first ≡ owned_edges new ++ edges_of_areas (place + 1) (drop (place + 1) areas)
-    by_item some =
-        h ∙ ap (λ z. owned_edges old ++ z) (areas_from areas place some.item some.is)
-        ∙ sym (append_assoc (owned_edges old) (edges_of_area_rings place 0 (rings_of some.item)) (edges_of_areas (place + 1) (drop (place + 1) areas)))
-        ∙ ap (λ z. z ++ edges_of_areas (place + 1) (drop (place + 1) areas)) (sym (more some.item some.is))
+    last_ring : (from : ℕ) (before : List (List Pt)) → k ≡ from + length before → edges_of_area_rings place from (before ++ ring ∷ []) ≡ edges_of_area_rings place from before ++ owned_by (Ring place k) (edges_of ring)
+    last_ring from [] e = append-nil (owned_by (Ring place from) (edges_of ring)) ∙ ap (λ j. owned_by (Ring place j) (edges_of ring)) (sym (omega (arith, e)))
+    last_ring from (r ∷ before) e =
+        ap (λ os. owned_by (Ring place from) (edges_of r) ++ os) (last_ring (from + 1) before (omega (arith, e)))
+        ∙ sym (append_assoc (owned_by (Ring place from) (edges_of r)) (edges_of_area_rings place (from + 1) before) (owned_by (Ring place k) (edges_of ring)))
+
+-- the shell, and then the holes
+pub shell_and_holes : (area : Area) (place : ℕ) → AreRingsClean area → (old mid new : List Edge) → AddsRing area.shell (Ring place 0) old mid → AddsRings area place 1 area.holes mid new → AddsRings area place 0 (rings_of area) old new
+shell_and_holes area place clean old mid new shell holes =
+    let own = map (row_of (Ring place 0) shell.side) (edges_of area.shell) in
+    record {
+      more = own ++ holes.more;
+      joined = holes.joined ∙ ap (λ rows. rows ++ holes.more) shell.joined ∙ append_assoc old own holes.more;
+      edges = map-append owned_edge own holes.more ∙ ap (λ os. os ++ owned_edges holes.more) (owned_rows (Ring place 0) shell.side (edges_of area.shell))
+          ∙ ap (λ os. owned_by (Ring place 0) (edges_of area.shell) ++ os) holes.edges;
+      hands = All-append (λ row. IsAreaHand area row.seg row.hand) own holes.more
+          (ring_hands area (Ring place 0) shell.side (edges_of area.shell) (shell_hand area clean shell.side shell.inside)) holes.hands;
+    }
+
+-- ---- the owners of an area's rows
+-- each is one of the area's rings
+abbrev pub IsRingOf : ℕ → Owner → Type 0
+IsRingOf place owner = (ring : ℕ) × (owner ≡ Ring place ring)
+
+ring_owners : (place first : ℕ) (rings : List (List Pt)) → All (λ edge. IsRingOf place edge.owner) (edges_of_area_rings place first rings)
+ring_owners place first [] = All-nil (λ (edge : OwnedEdge). IsRingOf place edge.owner)
+ring_owners place first (ring ∷ rings) =
+    All-append (λ (edge : OwnedEdge). IsRingOf place edge.owner) (owned_by (Ring place first) (edges_of ring)) (edges_of_area_rings place (first + 1) rings)
+    (own (edges_of ring)) (ring_owners place (first + 1) rings)
+  where
+    own : (edges : List Seg) → All (λ edge. IsRingOf place edge.owner) (owned_by (Ring place first) edges)
+    own [] = All-nil (λ (edge : OwnedEdge). IsRingOf place edge.owner)
+    own (e ∷ edges) = All-cons (λ (edge : OwnedEdge). IsRingOf place edge.owner) (record { seg = e; owner = Ring place first }) (owned_by (Ring place first) edges) (first, refl) (own edges)
+
+pub row_owners : (place first : ℕ) (rings : List (List Pt)) (rows : List Edge) → owned_edges rows ≡ edges_of_area_rings place first rings → All (λ row. IsRingOf place row.owner) rows
+row_owners place first rings rows same i d below =
+    subst (λ (edge : OwnedEdge). IsRingOf place edge.owner) (get_or-map owned_edge rows i d (owned_edge d) below)
+    (All-same (λ (edge : OwnedEdge). IsRingOf place edge.owner) (owned_edges rows) (edges_of_area_rings place first rings) same
+    (ring_owners place first rings) i (owned_edge d) (omega (arith, below, length-map rows owned_edge)))
+
+-- so each of the rows has the hand of its edge in the figure
+pub area_hands : (f : Figure) (place : ℕ) (area : Area) → IsAtPlace f.areas place area → (old new : List Edge) → AddsArea area place old new → All (HasItsHand f) old → All (HasItsHand f) new
+area_hands f place area at old new so before =
+    All-same (HasItsHand f) new (old ++ so.more) so.joined
+    (All-append (HasItsHand f) old so.more before (λ i d below. its (get_or so.more i d) (row_owners place 0 (rings_of area) so.more so.edges i d below) (so.hands i d below)))
+  where
+    its : (row : Edge) → IsRingOf place row.owner → IsAreaHand area row.seg row.hand → HasItsHand f row
+    its row own hand =
+        subst (λ (owner : Owner). HasHand f owner row.seg row.hand) (sym own.1)
+        (λ other is. subst (λ a. IsAreaHand a row.seg row.hand) (some_same (sym at ∙ is)) hand)
+
+-- ---- what a valid figure's area asks
+-- what holds of the item at each place holds of all
+pub all_from_places : {X : Type 0} (P : X → Type 0) (xs : List X) → ((i : ℕ) (x : X) → IsAtPlace xs i x → P x) → All P xs
+all_from_places P xs h i d below =
+    h i (get_or xs i d) (slice_get_read xs (length xs) i (get_or xs i d) refl below (get_or_default xs i d (get_or xs i d) below))
+
+pub rings_enough : (f : Figure) → IsValid f → (place : ℕ) (area : Area) → IsAtPlace f.areas place area → All (λ ring. ¬ HasTooFewPoints ring) (rings_of area)
+rings_enough f valid place area is =
+    all_from_places (λ ring. ¬ HasTooFewPoints ring) (rings_of area) (λ k ring at few. valid place too_few_points (record { area = area; area_is = is; is_so = record { place = k; ring = ring; ring_is = at; is_so = few } }))
+
+pub rings_simple : (f : Figure) → IsValid f → (place : ℕ) (area : Area) → IsAtPlace f.areas place area → All (λ ring. ¬ CrossesItself ring) (rings_of area)
+rings_simple f valid place area is =
+    all_from_places (λ ring. ¬ CrossesItself ring) (rings_of area) (λ k ring at crossed. valid place ring_cross (record { area = area; area_is = is; is_so = record { place = k; ring = ring; ring_is = at; is_so = crossed } }))

@@ -1,16 +1,15 @@
-ghost use Rattle.std.specs.Prelude.{◌≡◌, ◌∷◌, ◌++◌, ◌<◌, ◌≤◌, length, map, IfOk, OnOk, All};
-ghost use Rattle.point_set.specs.declared.figure.Area.{Area};
-ghost use Rattle.point_set.specs.Edges.{edges_of_lines, edges_of_area_rings, edges_of_areas, edges_of_figure};
+ghost use Rattle.std.specs.Prelude.{◌≡◌, ◌∷◌, ◌++◌, ◌≤◌, length, map, IfOk, OnOk, All};
+ghost use Rattle.point_set.specs.Edges.{edges_of_lines, edges_of_areas, edges_of_figure};
 ghost use Rattle.point_set.specs.Location.{rings_of};
 ghost use Rattle.point_set.specs.Rings.{edges_after, edges_of as edges_of_way};
-ghost use Rattle.point_set.specs.Shape.{IsWellShaped};
+ghost use Rattle.point_set.specs.Shape.{IsAreaShaped, IsRingShaped, IsWellShaped};
 ghost use Rattle.point_set.specs.Sides.{other_hand};
-ghost use Rattle.point_set.specs.Validity.{IsAtPlace};
-ghost use Rattle.ring_sides.specs.Rows.{owned_edges, row_of, HasItsHand};
+ghost use Rattle.point_set.specs.Validity.{CrossesItself, HasHoleOutside, HasHolesThatOverlap, HasTooFewPoints, RingsShareSegment};
+ghost use Rattle.ring_sides.specs.Rows.{owned_edges, row_of, AddsArea, AddsRing, AddsRings, HasItsHand};
 
 use crate::side::{interior_side, is_same};
 use plane_exact::{NoMemory, Path, Pt, Seg};
-use point_set::{Edge, EdgeRows, Figure, Hand, Owner, Valid};
+use point_set::{Area, Edge, EdgeRows, Figure, Hand, Owner, Valid};
 use std::alloc::Global;
 
 /// The edges of a figure in order, first of its lines and then of its areas, each with the line or the ring to which it
@@ -48,35 +47,57 @@ fn add_areas(rows: &mut EdgeRows, v: &Valid) -> Result<(), NoMemory>
     ensures edges { OnOk result (owned_edges rows.new ≡ owned_edges rows.old ++ edges_of_areas 0 v.now.areas) }
     ensures hands { OnOk result (All (HasItsHand v.now) rows.new) }
 {
-    for place in 0..v.figure().areas.len() {
-        add_area(rows, v, place)?;
+    for (place, area) in v.figure().areas.as_slice().iter().enumerate() {
+        add_area(rows, area, place as u32)?;
     }
     Ok(())
 }
 
-/// Adds the edges of the area at a place: those of its shell, and then those of its holes.
-fn add_area(rows: &mut EdgeRows, v: &Valid, place: usize) -> Result<(), NoMemory>
-    requires place { place < length v.now.areas }
-    requires hands { All (HasItsHand v.now) rows.old }
-    ensures edges { OnOk result ((area : Area) → IsAtPlace v.now.areas place area → owned_edges rows.new ≡ owned_edges rows.old ++ edges_of_area_rings place 0 (rings_of area)) }
-    ensures hands { OnOk result (All (HasItsHand v.now) rows.new) }
+/// Adds the edges of an area that fails none of the first five clauses of validity: those of its shell, and then those of its
+/// holes, each with the hand on which the inside of the area lies. `place` is the area's place.
+///
+/// # Errors
+/// `NoMemory`, and then `rows` holds some of them.
+pub fn add_area(rows: &mut EdgeRows, area: &Area, place: u32) -> Result<(), NoMemory>
+    requires shaped { IsAreaShaped area.now }
+    requires few { length area.now.holes ≤ 1048576 }
+    requires enough { All (λ ring. ¬ HasTooFewPoints ring) (rings_of area.now) }
+    requires simple { All (λ ring. ¬ CrossesItself ring) (rings_of area.now) }
+    requires unshared { ¬ RingsShareSegment area.now }
+    requires within { ¬ HasHoleOutside area.now }
+    requires unlapped { ¬ HasHolesThatOverlap area.now }
+    ensures rows { OnOk result (AddsArea area.now place rows.old rows.new) }
 {
-    let shell = &v.figure().areas.at(place).shell;
-    let side = interior_side(shell);
-    add_edges(rows, shell, Owner::Ring(place as u32, 0), side)?;
-    add_holes(rows, v, place)
+    add_ring(rows, &area.shell, Owner::Ring(place, 0))?;
+    add_holes(rows, area, place)
 }
 
-/// Adds the edges of the holes of the area at a place. The inside of the area lies outside of a hole.
-fn add_holes(rows: &mut EdgeRows, v: &Valid, place: usize) -> Result<(), NoMemory>
-    requires place { place < length v.now.areas }
-    requires hands { All (HasItsHand v.now) rows.old }
-    ensures edges { OnOk result ((area : Area) → IsAtPlace v.now.areas place area → owned_edges rows.new ≡ owned_edges rows.old ++ edges_of_area_rings place 1 area.holes) }
-    ensures hands { OnOk result (All (HasItsHand v.now) rows.new) }
+/// Adds the edges of a ring that neither crosses nor touches itself, each with the hand on which the ring's inside lies.
+///
+/// # Errors
+/// `NoMemory`, and then `rows` holds some of them.
+pub fn add_ring(rows: &mut EdgeRows, ring: &Path, owner: Owner) -> Result<(), NoMemory>
+    requires shaped { IsRingShaped ring.now }
+    requires enough { ¬ HasTooFewPoints ring.now }
+    requires simple { ¬ CrossesItself ring.now }
+    ensures rows { OnOk result (AddsRing ring.now owner rows.old rows.new) }
 {
-    let area = v.figure().areas.at(place);
+    add_edges(rows, ring, owner, interior_side(ring))
+}
+
+/// Adds the edges of an area's holes. The inside of the area lies outside of a hole.
+fn add_holes(rows: &mut EdgeRows, area: &Area, place: u32) -> Result<(), NoMemory>
+    requires shaped { IsAreaShaped area.now }
+    requires few { length area.now.holes ≤ 1048576 }
+    requires enough { All (λ ring. ¬ HasTooFewPoints ring) (rings_of area.now) }
+    requires simple { All (λ ring. ¬ CrossesItself ring) (rings_of area.now) }
+    requires unshared { ¬ RingsShareSegment area.now }
+    requires within { ¬ HasHoleOutside area.now }
+    requires unlapped { ¬ HasHolesThatOverlap area.now }
+    ensures rows { OnOk result (AddsRings area.now place 1 area.now.holes rows.old rows.new) }
+{
     for (i, hole) in area.holes.as_slice().iter().enumerate() {
-        let owner = Owner::Ring(place as u32, i as u32 + 1);
+        let owner = Owner::Ring(place, i as u32 + 1);
         let side = opposite(interior_side(hole));
         add_edges(rows, hole, owner, side)?;
     }

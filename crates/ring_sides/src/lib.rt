@@ -5,7 +5,7 @@ mod edges;
 mod middle;
 mod side;
 
-pub use edges::edges_of;
+pub use edges::{add_area, add_ring, edges_of};
 pub use side::{interior_side, orient_ring};
 
 #[cfg(test)]

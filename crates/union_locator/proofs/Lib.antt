@@ -1,6 +1,5 @@
 mod AreaEdges
 mod AreaSections
-mod AtPoints
 mod MeetingPlaces
 mod NearEdges
 mod OnLines

@@ -7,7 +7,6 @@ mod locate;
 mod nearby;
 mod places;
 mod plain;
-mod points;
 
 pub use areas::AreaLocs;
 pub use locate::locate_with;

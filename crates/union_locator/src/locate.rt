@@ -16,7 +16,7 @@ use std::alloc::Global;
 
 /// Where a node lies in a figure, with the kind of element that decides. It stands on any way to locate in one area: `areas`
 /// is one for the figure, `rows` are the figure's edges, `near` are the places of exactly the edges whose windows meet
-/// `Window::round(n)`, and `ends` are the ends of the figure's lines.
+/// `Window::round(n)`, and `ends` are the ends of the figure's lines with its spots.
 ///
 /// Takes memory only where the node is on the boundary of an area and inside none, for the edges of areas that hold it, and
 /// what `areas` takes.

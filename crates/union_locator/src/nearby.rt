@@ -14,7 +14,6 @@ ghost use Rattle.union_locator.specs.Areas.{IsInAreas, areas_alone};
 ghost use Rattle.union_locator.specs.Nearby.{IsNearby, IsAreaEdgeAt, IsLineEdgeAt};
 
 use crate::areas::{AreaLocs, locate_in_areas};
-use crate::points::is_at_point;
 use bound_rule::{EndTable, in_boundary};
 use fan_order::{Fan, SectionList, add_sections};
 use im_matrix::{Loc, Which};
@@ -111,7 +110,7 @@ impl Nearby<'_> {
                 DimLoc::LineInterior
             };
         }
-        if is_at_point(self.figure, self.node) {
+        if ends.is_spot(self.node) {
             DimLoc::PointInterior
         } else {
             DimLoc::Exterior

@@ -28,7 +28,8 @@ pub runs_toward : (forward : Bool) (e : Seg) (v : Point) → IsOnEdge e v → (d
 runs_toward forward e v on d c =
     record { on = (Decides-is_on_segment (point_of e.a) (point_of e.b) v).1 on; end = by_end forward c }
   where
-    by_end : (forward : Bool) → IsInCone v d d (point_of (far_end forward e)) → IsInCone v d d (point_of e.a) ⊎ IsInCone v d d (point_of e.b)
+    by_end : (forward : Bool) → IsInCone v d d (point_of (far_end forward e))
+        → IsInCone v d d (point_of e.a) ⊎ IsInCone v d d (point_of e.b)
     by_end true c = inr c
     by_end false c = inl c
 

@@ -18,7 +18,9 @@ returns c = record {
       let e = c.args.edge.now.seg in
       let v = point_at c.args.n.now in
       let d = direction_of c.way_of.result in
-      let ahead = way_cone e.a e.b v c.requires.on (not_so c.is_at.result c.is_at.ensures.at c.if-is_at.false) d c.way_of.ensures.across c.way_of.ensures.above in
+      let not_end = not_so c.is_at.result c.is_at.ensures.at c.if-is_at.false in
+      let ahead = way_cone e.a e.b v c.requires.on not_end d c.way_of.ensures.across c.way_of.ensures.above in
+      let free = free_ahead area e unshared v c.requires.on d ahead in
       by_germ area clean e v c.requires.on d ahead c.args.part c.in_ok-part_along.field-0
-      (c.in_ok-part_along.ensures.germ area clean are_rows there (free_ahead area e unshared v c.requires.on d ahead)) c.eq.result (search rules);
+      (c.in_ok-part_along.ensures.germ area clean are_rows there free) c.eq.result (search rules);
 }

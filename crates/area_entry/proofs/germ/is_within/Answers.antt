@@ -1,7 +1,4 @@
-use Rattle.std.proofs.Common.{◌≡◌, ◌⊎◌, inl, inr, ◌↔◌, IsTrue, Bool, true, false, ℤ, pos, ◌<ℤ◌, sym, ◌∙◌, refl}
-use Rattle.std.proofs.lemmas.Bool.{true≢false}
 use Rattle.plane_exact.specs.Orders.{direction_of}
-use Rattle.plane_laws.specs.Directions.{Direction, bend_of, PointSameWay}
 use Rattle.area_entry.proofs.Bends.{turned_bend, level_bend, by_left, by_right, by_whole, by_opposite, not_of, not_so}
 use Rattle.area_entry.proofs.germ.is_within.Goals as goal
 

@@ -1,4 +1,4 @@
-use Rattle.std.proofs.Common.{ℕ, ◌+◌, ◌%◌, length, subst, arith}
+use Rattle.std.proofs.Common.{ℕ, ◌+◌, ◌%◌, subst, arith}
 use Rattle.plane_exact.specs.Orders.{direction_of}
 use Rattle.point_set.specs.Validity.{IsAtPlace}
 use Rattle.germ_laws.proofs.Rays.Places.{in_sector_of}

@@ -3,6 +3,7 @@ use Rattle.std.proofs.lemmas.Bool.{false≢true}
 use Rattle.point_set.specs.declared.figure.Area.{Area}
 use Rattle.point_set.specs.Validity.{AreasOverlap, AreasShareSegment, CrossesItself, HasHoleOutside, HasHolesThatOverlap, HasTooFewPoints, HasTouchCycle, IsAtPlace, RingsShareSegment, SomeEarlier, SomeRing}
 use Rattle.figure_laws.proofs.Lists.Places.{read_at}
+use Rattle.ring_sides.proofs.Rows.{few_holes}
 use Rattle.geom_valid.specs.Grounds.{IsSoundArea}
 use Rattle.geom_valid.proofs.EarlierAreas.{AreEdgesSound, after_cross, after_cycle, after_elements_overlap, after_elements_share, after_few, after_outside, after_overlap, after_share, shaped_at, sound_from}
 use Rattle.geom_valid.proofs.FirstFaults.{some_here}
@@ -125,7 +126,7 @@ of-requires-2 c =
     let unlapped : ¬ HasHolesThatOverlap area
     = λ h. false≢true (sym c.if-branch-4.false ∙ c.in_ok-has_holes_that_overlap.ensures.overlap.1 (subst HasHolesThatOverlap (sym c.in_ok-rings.ensures.area) h)) in
     let sound : IsSoundArea area
-    = sound_from area (shaped_at f c.requires.shaped c.args.place area at) edges.few edges.crossed edges.unshared within unlapped in
+    = sound_from area (few_holes f c.requires.shaped c.args.place area at) (shaped_at f c.requires.shaped c.args.place area at) edges.few edges.crossed edges.unshared within unlapped in
     record { sound = subst IsSoundArea (sym c.in_ok-rings.ensures.area) sound }
 
 pub overlaps_earlier-requires-clause-area : goal.overlaps_earlier-requires-clause-area

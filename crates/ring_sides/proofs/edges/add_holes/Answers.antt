@@ -1,63 +1,45 @@
-use Rattle.std.proofs.Common.{◌≡◌, ◌++◌, ◌+◌, length, drop, List, ap, sym, subst, arith}
+use Rattle.std.proofs.Common.{◌≡◌, ℕ, suc, ◌+◌, ◌∷◌, [], ◌++◌, take, length, List, ap, sym, ◌∙◌, subst, arith}
+use Rattle.std.proofs.lemmas.List.{length-take-le, take_more}
 use Rattle.plane_exact.specs.declared.point.Pt.{Pt}
+use Rattle.plane_exact.specs.declared.point.Seg.{Seg}
 use Rattle.point_set.specs.declared.edge.Hand.{Hand}
-use Rattle.point_set.specs.declared.edge.Owner.TheVariants.{Ring}
-use Rattle.point_set.specs.declared.figure.Area.{Area}
-use Rattle.point_set.specs.Edges.{edges_of_area_rings, HasHand}
+use Rattle.point_set.specs.Edges.{IsAreaHand}
+use Rattle.point_set.specs.Location.{rings_of}
 use Rattle.point_set.specs.Rings.{edges_of}
-use Rattle.point_set.specs.Validity.{IsAtPlace}
-use Rattle.ring_sides.specs.Rows.{owned_edges}
-use Rattle.figure_laws.proofs.Lists.Places.{read_at}
-use Rattle.figure_laws.proofs.Lists.Counts.{few_areas}
-use Rattle.ring_sides.proofs.Rows.{area_read, rings_from, more_rows, more_hands, few_holes, hole_has_hand, ring_enough, ring_simple, ring_later, holes_passed, of_area_at}
+use Rattle.point_set.specs.Validity.{CrossesItself, HasTooFewPoints, IsAtPlace}
+use Rattle.figure_laws.proofs.Lists.Places.{all_at, read_at}
+use Rattle.side_laws.proofs.Areas.Hands.{AreRingsClean, hole_hand}
+use Rattle.ring_sides.specs.Rows.{AddsRings}
+use Rattle.ring_sides.proofs.Rows.{ring_added}
 use Rattle.ring_sides.proofs.edges.add_holes.Goals as goal
-
-pub overflow_cast-owner : goal.overflow_cast-owner
-overflow_cast-owner c = omega (arith, few_areas c.args.v.now c.figure.ensures.shaped)
-
-pub overflow_cast-owner-in-loop-i : goal.overflow_cast-owner-in-loop-i
-overflow_cast-owner-in-loop-i c =
-    let at = area_read c.figure.result.now c.args.v.now c.args.place c.at-area.result.now c.figure.ensures.same c.requires.place c.at-area.ensures.item in
-    omega (arith, few_holes c.args.v.now c.figure.ensures.shaped c.args.place c.at-area.result.now at, ap length c.as_slice-hole-items.ensures.items)
-
-pub overflow_add-owner : goal.overflow_add-owner
-overflow_add-owner c =
-    let at = area_read c.figure.result.now c.args.v.now c.args.place c.at-area.result.now c.figure.ensures.same c.requires.place c.at-area.ensures.item in
-    omega (arith, few_holes c.args.v.now c.figure.ensures.shaped c.args.place c.at-area.result.now at, ap length c.as_slice-hole-items.ensures.items)
 
 pub interior_side-requires-clause-enough : goal.interior_side-requires-clause-enough
 interior_side-requires-clause-enough c =
-    let at = area_read c.figure.result.now c.args.v.now c.args.place c.at-area.result.now c.figure.ensures.same c.requires.place c.at-area.ensures.item in
-    ring_enough c.args.v.now c.figure.ensures.valid c.args.place c.at-area.result.now at (c.loop-i.i + 1) c.hole-item.result
-    (ring_later c.at-area.result.now c.loop-i.i c.hole-item.result (read_at c.as_slice-hole-items.result.now c.at-area.result.now.holes c.loop-i.i c.hole-item.result c.as_slice-hole-items.ensures.items c.loop-i-test.true c.hole-item.is))
+    let at = read_at c.as_slice-hole-items.result.now c.args.area.now.holes c.loop-i.i c.hole-item.result c.as_slice-hole-items.ensures.items
+    c.loop-i-test.true c.hole-item.is in
+    all_at (λ (ring : List Pt). ¬ HasTooFewPoints ring) (rings_of c.args.area.now) (suc c.loop-i.i) c.hole-item.result c.requires.enough at
 
 pub interior_side-requires-clause-simple : goal.interior_side-requires-clause-simple
 interior_side-requires-clause-simple c =
-    let at = area_read c.figure.result.now c.args.v.now c.args.place c.at-area.result.now c.figure.ensures.same c.requires.place c.at-area.ensures.item in
-    ring_simple c.args.v.now c.figure.ensures.valid c.args.place c.at-area.result.now at (c.loop-i.i + 1) c.hole-item.result
-    (ring_later c.at-area.result.now c.loop-i.i c.hole-item.result (read_at c.as_slice-hole-items.result.now c.at-area.result.now.holes c.loop-i.i c.hole-item.result c.as_slice-hole-items.ensures.items c.loop-i-test.true c.hole-item.is))
+    let at = read_at c.as_slice-hole-items.result.now c.args.area.now.holes c.loop-i.i c.hole-item.result c.as_slice-hole-items.ensures.items
+    c.loop-i-test.true c.hole-item.is in
+    all_at (λ (ring : List Pt). ¬ CrossesItself ring) (rings_of c.args.area.now) (suc c.loop-i.i) c.hole-item.result c.requires.simple at
 
 pub loop-i-preserved : goal.loop-i-preserved
 loop-i-preserved c =
-    let at = area_read c.figure.result.now c.args.v.now c.args.place c.at-area.result.now c.figure.ensures.same c.requires.place c.at-area.ensures.item in
-    let holes = c.as_slice-hole-items.result.now in
+    let area = c.args.area.now in
+    let items = c.as_slice-hole-items.result.now in
     let hole = c.hole-item.result in
     let i = c.loop-i.i in
-    let place = c.args.place in
-    let own = read_at holes c.at-area.result.now.holes i hole c.as_slice-hole-items.ensures.items c.loop-i-test.true c.hole-item.is in
     let side = c.opposite-side.result in
-    record {
-      edges = more_rows (owned_edges c.args.rows.now ++ edges_of_area_rings place 1 holes) (edges_of_area_rings place (i + 1) (drop i holes))
-          (edges_of_area_rings place (i + 1 + 1) (drop (i + 1) holes)) c.loop-i.rows c.add_edges.new.rows (Ring place (i + 1)) side (edges_of hole)
-          c.in_ok-add_edges.ensures.rows c.loop-i.invariant.edges
-          (rings_from place holes i (i + 1) hole (subst (λ (xs : List (List Pt)). IsAtPlace xs i hole) (sym c.as_slice-hole-items.ensures.items) own));
-      hands = more_hands c.args.v.now c.loop-i.rows c.add_edges.new.rows (Ring place (i + 1)) side (edges_of hole) c.in_ok-add_edges.ensures.rows c.loop-i.invariant.hands
-          (λ k e is. subst (λ (h : Hand). HasHand c.args.v.now (Ring place (i + 1)) e h) (sym c.opposite-side.ensures.other)
-          (hole_has_hand c.args.v.now c.figure.ensures.shaped c.figure.ensures.valid place c.at-area.result.now at i hole own c.interior_side.result c.interior_side.ensures.side k e is));
-    }
-
-pub returns-clause-edges : goal.returns-clause-edges
-returns-clause-edges c =
-    let at = area_read c.figure.result.now c.args.v.now c.args.place c.at-area.result.now c.figure.ensures.same c.requires.place c.at-area.ensures.item in
-    of_area_at (λ (area : Area). owned_edges c.loop-i.rows ≡ owned_edges c.args.rows.now ++ edges_of_area_rings c.args.place 1 area.holes) c.args.v.now.areas c.args.place c.at-area.result.now at
-    (holes_passed c.args.place c.loop-i.i c.as_slice-hole-items.result.now c.at-area.result.now.holes (owned_edges c.args.rows.now) (owned_edges c.loop-i.rows) c.as_slice-hole-items.ensures.items c.loop-i-test.false c.loop-i.invariant.edges)
+    let at = read_at items area.holes i hole c.as_slice-hole-items.ensures.items c.loop-i-test.true c.hole-item.is in
+    let clean : AreRingsClean area
+    = record { shaped = c.requires.shaped; unshared = c.requires.unshared; within = c.requires.within; unlapped = c.requires.unlapped } in
+    let hands : (k : ℕ) (e : Seg) → IsAtPlace (edges_of hole) k e → IsAreaHand area e side
+    = λ k e is. subst (λ (h : Hand). IsAreaHand area e h) (sym c.opposite-side.ensures.other)
+    (hole_hand area clean i hole at c.interior_side.result c.interior_side.ensures.side k e is) in
+    let count : length (take i items) ≡ i = length-take-le i items (omega (arith, c.loop-i-test.true)) in
+    let next = take_more items i hole c.loop-i-test.true ∙ ap (λ (h : List Pt). take i items ++ h ∷ []) (sym c.hole-item.is) in
+    subst (λ (rings : List (List Pt)). AddsRings area c.args.place 1 rings c.args.rows.now c.add_edges.new.rows) (sym next)
+    (ring_added area c.args.place 1 (take i items) hole (i + 1) (omega (arith, count)) side hands c.args.rows.now c.loop-i.rows c.add_edges.new.rows
+    c.loop-i.invariant c.in_ok-add_edges.ensures.rows)

@@ -5,7 +5,7 @@ use Rattle.point_set.specs.declared.figure.Area.{Area}
 use Rattle.point_set.specs.Validity.{IsAtPlace, RingsShareSegment}
 use Rattle.figure_laws.proofs.Lists.Places.{read_at}
 use Rattle.valid_laws.specs.Entering.{LeavesShell}
-use Rattle.geom_valid.proofs.Entries.{hole_outside_at, no_hole_outside, shell_unshared}
+use Rattle.geom_valid.proofs.ByEntering.{hole_outside_at, no_hole_outside, shell_unshared}
 use Rattle.geom_valid.proofs.RingLists.{none_at_last, none_on}
 use Rattle.geom_valid.proofs.ring_set.RingSet.has_hole_outside.Goals as goal
 

@@ -2,7 +2,7 @@ use Rattle.std.proofs.Common.{◌≡◌, ℕ, ◌<◌, length, List, refl, ◌�
 use Rattle.std.proofs.lemmas.Bool.{false≢true}
 use Rattle.plane_exact.specs.declared.point.Pt.{Pt}
 use Rattle.point_set.specs.declared.figure.Area.{Area}
-use Rattle.geom_valid.proofs.Entries.{holes_overlap_at, no_holes_overlap, hole_within}
+use Rattle.geom_valid.proofs.ByEntering.{holes_overlap_at, no_holes_overlap, hole_within}
 use Rattle.geom_valid.proofs.ring_set.RingSet.has_holes_that_overlap.Goals as goal
 
 pub returns-then-branch : goal.returns-then-branch

@@ -6,7 +6,7 @@ use Rattle.point_set.specs.Validity.{IsAtPlace}
 use Rattle.figure_laws.proofs.Lists.Places.{read_at, some_same}
 use Rattle.valid_laws.specs.Entering.{AreBothInside}
 use Rattle.geom_valid.specs.Grounds.{OverlapsEarlierHole}
-use Rattle.geom_valid.proofs.Entries.{holes_unshared, no_earlier_hole}
+use Rattle.geom_valid.proofs.ByEntering.{holes_unshared, no_earlier_hole}
 use Rattle.geom_valid.proofs.RingLists.{none_on}
 use Rattle.geom_valid.proofs.ring_set.RingSet.overlaps_earlier.Goals as goal
 

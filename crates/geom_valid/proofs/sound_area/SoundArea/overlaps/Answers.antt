@@ -1,5 +1,5 @@
 use Rattle.valid_laws.proofs.Clauses.Laws.{elements_overlap}
-use Rattle.geom_valid.proofs.Entries.{areas_swapped, by_first, by_second}
+use Rattle.geom_valid.proofs.ByEntering.{areas_swapped, by_first, by_second}
 use Rattle.geom_valid.proofs.sound_area.SoundArea.overlaps.Goals as goal
 
 pub enters-requires-else-branch : goal.enters-requires-else-branch

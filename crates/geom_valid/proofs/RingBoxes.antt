@@ -1,0 +1,208 @@
+-- What is inside a ring is in each box that holds the ring's positions: so where two boxes are apart, nothing is inside both.
+use Rattle.std.proofs.Common.{◌≡◌, ◌⊎◌, inl, inr, ℕ, zero, suc, ℤ, pos, ◌-ℤ◌, ◌*ℤ◌, ◌≤ℤ◌, ◌<ℤ◌, Bool, true, false, not, ◌&&◌, List, [], ◌∷◌, ap, refl, sym, ◌∙◌, subst, arith}
+use Rattle.std.specs.Bool.{MatchBool}
+use Rattle.std.specs.List.{All}
+use Rattle.std.proofs.lemmas.Bool.{and_parts, false≢true}
+use Rattle.std.proofs.lemmas.List.Elements.{All-nil, All-cons, All-head, All-tail}
+use Rattle.whole_algebra.proofs.Laws.{linear}
+use Rattle.whole_algebra.proofs.Polynomials.{◌⊖◌, ◌⊗◌, identity}
+use Rattle.whole_algebra.proofs.Signs.{not_<ℤ, neg-*-pos, pos-*-pos, nonpos-*-nonpos, nonneg-*-nonpos, pos_factor, neg_factor, scale_≤ℤ_right, <ℤ_weaken}
+use Rattle.plane_laws.proofs.Turns.Turns.{point_at, turn_poly, ◌then◌}
+use Rattle.plane_laws.specs.Plane.{Point, turn, rise, shift}
+use Rattle.plane_exact.specs.Places.{point_of}
+use Rattle.plane_exact.specs.Windows.{IsInWindow, HasCommonPoint}
+use Rattle.plane_exact.specs.declared.point.Pt.{Pt}
+use Rattle.plane_exact.specs.declared.point.Seg.{Seg}
+use Rattle.plane_exact.specs.declared.window.Window.{Window}
+use Rattle.plane_exact.proofs.Laws.{shift-to_position, rise-to_position}
+use Rattle.point_set.specs.Rings.{is_same_position, edge_before, edges_after, edges_of, is_low, is_on_edges, crosses, crosses_from, differ, is_odd, is_inside}
+use Rattle.point_set.specs.Shape.{IsClosed}
+use Rattle.ring_laws.proofs.Parity.Flip.{crosses_by_sign}
+use Rattle.ring_laws.proofs.Parity.Bands.{Low}
+use Rattle.ring_laws.proofs.Parity.OneEdge.{tells_low, rise_p}
+use Rattle.ring_laws.proofs.Parity.Ring.{closed_change, is_odd_change}
+use Rattle.geom_valid.specs.Boxes.{IsInBox, IsRoundRing}
+
+-- ---- the ends of a ring's edges
+record AreEndsIn (box : Window) (e : Seg) : Type 0 where
+  start : IsInBox box e.a
+  end : IsInBox box e.b
+
+-- are positions of the ring, so in its box
+ends_before : (box : Window) (b : Bool) (p q : Pt) (edges : List Seg) → IsInBox box p → IsInBox box q → All (AreEndsIn box) edges
+    → All (AreEndsIn box) (edge_before b p q edges)
+ends_before box true p q edges hp hq h = h
+ends_before box false p q edges hp hq h = All-cons (AreEndsIn box) (record { a = p; b = q }) edges (record { start = hp; end = hq }) h
+
+ends_after : (box : Window) (p : Pt) (others : List Pt) → IsInBox box p → IsRoundRing box others → All (AreEndsIn box) (edges_after p others)
+ends_after box p [] hp h = All-nil (AreEndsIn box)
+ends_after box p (q ∷ others) hp h =
+    let hq = All-head (IsInBox box) q others h in
+    ends_before box (is_same_position p q) p q (edges_after q others) hp hq
+    (ends_after box q others hq (All-tail (IsInBox box) q others h))
+
+ends_in : (box : Window) (ring : List Pt) → IsRoundRing box ring → All (AreEndsIn box) (edges_of ring)
+ends_in box [] h = All-nil (AreEndsIn box)
+ends_in box (p ∷ others) h = ends_after box p others (All-head (IsInBox box) p others h) (All-tail (IsInBox box) p others h)
+
+-- ---- a ray from outside the box
+-- the turn along an edge by the distances of its ends
+weighed_turn : (a b p : Point) → p.w *ℤ turn a b p ≡ (shift p a *ℤ rise p b) -ℤ (shift p b *ℤ rise p a)
+unfolding turn rise shift
+weighed_turn a b p =
+    let pa = point_at 0 in
+    let pb = point_at 3 in
+    let pp = point_at 6 in
+    identity (pp.w ⊗ turn_poly pa pb pp)
+    ((pa.x ⊗ pp.w ⊖ pp.x ⊗ pa.w) ⊗ rise_p pp pb ⊖ (pb.x ⊗ pp.w ⊖ pp.x ⊗ pb.w) ⊗ rise_p pp pa) (a then b then p then []) refl
+
+-- both ends left of the point: an edge that goes up has it on the right
+right_of_up : (a b p : Point) → shift p a <ℤ pos 0 → shift p b <ℤ pos 0 → rise p a ≤ℤ pos 0 → pos 0 <ℤ rise p b → turn a b p <ℤ pos 0
+right_of_up a b p left_a left_b low high =
+    neg_factor p.w (turn a b p) p.heavy
+    (omega (arith, linear, weighed_turn a b p, neg-*-pos left_a high, nonpos-*-nonpos (weak left_b) low))
+  where
+    weak : {z : ℤ} → z <ℤ pos 0 → z ≤ℤ pos 0
+    weak h = omega (arith, linear, h)
+
+right_of_down : (a b p : Point) → shift p a <ℤ pos 0 → shift p b <ℤ pos 0 → pos 0 <ℤ rise p a → rise p b ≤ℤ pos 0 → pos 0 <ℤ turn a b p
+right_of_down a b p left_a left_b high low =
+    pos_factor p.w (turn a b p) p.heavy
+    (omega (arith, linear, weighed_turn a b p, neg-*-pos left_b high, nonpos-*-nonpos (weak left_a) low))
+  where
+    weak : {z : ℤ} → z <ℤ pos 0 → z ≤ℤ pos 0
+    weak h = omega (arith, linear, h)
+
+-- both ends right of it: an edge that goes up has it on the left
+left_of_up : (a b p : Point) → pos 0 <ℤ shift p a → pos 0 <ℤ shift p b → rise p a ≤ℤ pos 0 → pos 0 <ℤ rise p b → pos 0 <ℤ turn a b p
+left_of_up a b p right_a right_b low high =
+    pos_factor p.w (turn a b p) p.heavy
+    (omega (arith, linear, weighed_turn a b p, pos-*-pos right_a high, nonneg-*-nonpos (weak right_b) low))
+  where
+    weak : {z : ℤ} → pos 0 <ℤ z → pos 0 ≤ℤ z
+    weak h = omega (arith, linear, h)
+
+left_of_down : (a b p : Point) → pos 0 <ℤ shift p a → pos 0 <ℤ shift p b → pos 0 <ℤ rise p a → rise p b ≤ℤ pos 0 → turn a b p <ℤ pos 0
+left_of_down a b p right_a right_b high low =
+    neg_factor p.w (turn a b p) p.heavy
+    (omega (arith, linear, weighed_turn a b p, pos-*-pos right_b high, nonneg-*-nonpos (weak right_a) low))
+  where
+    weak : {z : ℤ} → pos 0 <ℤ z → pos 0 ≤ℤ z
+    weak h = omega (arith, linear, h)
+
+-- so the ray to the right doesn't cross an edge that is left of the point
+crosses_left : (e : Seg) (p : Point) → shift p (point_of e.a) <ℤ pos 0 → shift p (point_of e.b) <ℤ pos 0 → crosses p e ≡ false
+crosses_left e p left_a left_b =
+    go (is_low p (point_of e.a)) (is_low p (point_of e.b)) (tells_low p (point_of e.a)) (tells_low p (point_of e.b))
+  where
+    go : (l m : Bool) → Low l (rise p (point_of e.a)) → Low m (rise p (point_of e.b)) → crosses_from l m (turn (point_of e.a) (point_of e.b) p) ≡ false
+    go true true h k = refl
+    go true false h k =
+        crosses_by_sign true false false (turn (point_of e.a) (point_of e.b) p) (right_of_up (point_of e.a) (point_of e.b) p left_a left_b h k)
+    go false true h k =
+        crosses_by_sign false true true (turn (point_of e.a) (point_of e.b) p) (right_of_down (point_of e.a) (point_of e.b) p left_a left_b h k)
+    go false false h k = refl
+
+-- and of those on the right it crosses each that has one end below the ray
+crosses_right : (e : Seg) (p : Point) → pos 0 <ℤ shift p (point_of e.a) → pos 0 <ℤ shift p (point_of e.b)
+    → crosses p e ≡ differ (is_low p (point_of e.a)) (is_low p (point_of e.b))
+crosses_right e p right_a right_b =
+    go (is_low p (point_of e.a)) (is_low p (point_of e.b)) (tells_low p (point_of e.a)) (tells_low p (point_of e.b))
+  where
+    go : (l m : Bool) → Low l (rise p (point_of e.a)) → Low m (rise p (point_of e.b))
+        → crosses_from l m (turn (point_of e.a) (point_of e.b) p) ≡ differ l m
+    go true true h k = refl
+    go true false h k =
+        crosses_by_sign true false true (turn (point_of e.a) (point_of e.b) p) (left_of_up (point_of e.a) (point_of e.b) p right_a right_b h k)
+    go false true h k =
+        crosses_by_sign false true false (turn (point_of e.a) (point_of e.b) p) (left_of_down (point_of e.a) (point_of e.b) p right_a right_b h k)
+    go false false h k = refl
+
+-- an edge below the ray, or above it
+crosses_level : (e : Seg) (p : Point) (low : Bool) → is_low p (point_of e.a) ≡ low → is_low p (point_of e.b) ≡ low → crosses p e ≡ false
+crosses_level e p low ha hb =
+    (λ i. crosses_from (ha i) (hb i) (turn (point_of e.a) (point_of e.b) p)) ∙ none low
+  where
+    none : (b : Bool) → crosses_from b b (turn (point_of e.a) (point_of e.b) p) ≡ false
+    none true = refl
+    none false = refl
+
+low_true : (p a : Point) → rise p a ≤ℤ pos 0 → is_low p a ≡ true
+low_true p a h = go (is_low p a) (tells_low p a)
+  where
+    go : (b : Bool) → Low b (rise p a) → b ≡ true
+    go true k = refl
+    go false k = absurd (omega (arith, linear, h, k))
+
+low_false : (p a : Point) → pos 0 <ℤ rise p a → is_low p a ≡ false
+low_false p a h = go (is_low p a) (tells_low p a)
+  where
+    go : (b : Bool) → Low b (rise p a) → b ≡ false
+    go true k = absurd (omega (arith, linear, h, k))
+    go false k = refl
+
+-- ---- along the edges
+none_odd : (p : Point) (box : Window) → ((e : Seg) → AreEndsIn box e → crosses p e ≡ false) → (edges : List Seg) → All (AreEndsIn box) edges
+    → is_odd p edges ≡ false
+none_odd p box misses [] ends = refl
+none_odd p box misses (e ∷ edges) ends =
+    let first = misses e (All-head (AreEndsIn box) e edges ends) in
+    let rest = none_odd p box misses edges (All-tail (AreEndsIn box) e edges ends) in
+    (λ i. differ (first i) (rest i))
+
+odd_changes : (p : Point) (box : Window)
+    → ((e : Seg) → AreEndsIn box e → crosses p e ≡ differ (is_low p (point_of e.a)) (is_low p (point_of e.b))) → (edges : List Seg)
+    → All (AreEndsIn box) edges → is_odd p edges ≡ is_odd_change (λ v. is_low p (point_of v)) edges
+odd_changes p box by_ends [] ends = refl
+odd_changes p box by_ends (e ∷ edges) ends =
+    let first = by_ends e (All-head (AreEndsIn box) e edges ends) in
+    let rest = odd_changes p box by_ends edges (All-tail (AreEndsIn box) e edges ends) in
+    (λ i. differ (first i) (rest i))
+
+-- ---- inside the ring, so in the box
+-- by the parity of the ray's crossings
+odd_inside : (p : Point) (ring : List Pt) → is_inside p ring ≡ true → is_odd p (edges_of ring) ≡ true
+odd_inside p ring h = (and_parts (not (is_on_edges p (edges_of ring))) (is_odd p (edges_of ring)) h).1
+
+pub inside_in_box : (box : Window) (ring : List Pt) → IsClosed ring → IsRoundRing box ring → (p : Point) → is_inside p ring ≡ true
+    → IsInWindow box p
+inside_in_box box ring closed round p inside = record {
+  left = not_<ℤ p.x (box.low_x *ℤ p.w) (λ beyond. even (odd_changes p box
+      (λ e h. crosses_right e p (past_left e.a h.start beyond) (past_left e.b h.end beyond)) (edges_of ring) ends
+      ∙ closed_change (λ v. is_low p (point_of v)) ring closed));
+  right = not_<ℤ (box.high_x *ℤ p.w) p.x (λ beyond. even (none_odd p box
+      (λ e h. crosses_left e p (past_right e.a h.start beyond) (past_right e.b h.end beyond)) (edges_of ring) ends));
+  bottom = not_<ℤ p.y (box.low_y *ℤ p.w) (λ beyond. even (none_odd p box
+      (λ e h. crosses_level e p false (past_bottom e.a h.start beyond) (past_bottom e.b h.end beyond)) (edges_of ring) ends));
+  top = not_<ℤ (box.high_y *ℤ p.w) p.y (λ beyond. even (none_odd p box
+      (λ e h. crosses_level e p true (past_top e.a h.start beyond) (past_top e.b h.end beyond)) (edges_of ring) ends));
+}
+  where
+    ends : All (AreEndsIn box) (edges_of ring)
+    ends = ends_in box ring round
+
+    even : is_odd p (edges_of ring) ≡ false → ⊥
+    even h = false≢true (sym h ∙ odd_inside p ring inside)
+
+    past_left : (v : Pt) → IsInBox box v → p.x <ℤ (box.low_x *ℤ p.w) → pos 0 <ℤ shift p (point_of v)
+    past_left v h beyond = omega (arith, linear, shift-to_position p v, beyond, scale_≤ℤ_right (<ℤ_weaken p.heavy) h.left)
+
+    past_right : (v : Pt) → IsInBox box v → (box.high_x *ℤ p.w) <ℤ p.x → shift p (point_of v) <ℤ pos 0
+    past_right v h beyond = omega (arith, linear, shift-to_position p v, beyond, scale_≤ℤ_right (<ℤ_weaken p.heavy) h.right)
+
+    past_bottom : (v : Pt) → IsInBox box v → p.y <ℤ (box.low_y *ℤ p.w) → is_low p (point_of v) ≡ false
+    past_bottom v h beyond =
+        low_false p (point_of v) (omega (arith, linear, rise-to_position p v, beyond, scale_≤ℤ_right (<ℤ_weaken p.heavy) h.bottom))
+
+    past_top : (v : Pt) → IsInBox box v → (box.high_y *ℤ p.w) <ℤ p.y → is_low p (point_of v) ≡ true
+    past_top v h beyond =
+        low_true p (point_of v) (omega (arith, linear, rise-to_position p v, beyond, scale_≤ℤ_right (<ℤ_weaken p.heavy) h.top))
+
+-- nothing is inside two rings whose boxes are apart
+pub boxes_meet : (box other_box : Window) (one other : List Pt) → IsClosed one → IsClosed other → IsRoundRing box one → IsRoundRing other_box other
+    → (p : Point) → is_inside p one ≡ true → is_inside p other ≡ true → HasCommonPoint box other_box
+boxes_meet box other_box one other closed other_closed round other_round p inside other_inside = record {
+  point = p;
+  here = inside_in_box box one closed round p inside;
+  there = inside_in_box other_box other other_closed other_round p other_inside;
+}
