@@ -136,6 +136,10 @@ overlaps_earlier-requires-clause-area c =
     let at = read_at f.areas f.areas c.args.place area refl c.requires.place c.at-area.ensures.item in
     subst (λ (a : Area). IsAtPlace f.areas c.args.place a) (sym (c.in_ok-sound.ensures.area ∙ c.in_ok-rings.ensures.area)) at
 
+pub overlaps_earlier-requires-clause-unshared : goal.overlaps_earlier-requires-clause-unshared
+overlaps_earlier-requires-clause-unshared c =
+    λ h. false≢true (sym c.if-branch-6.false ∙ c.in_ok-shares_with_earlier.ensures.share.1 h)
+
 pub returns-then-branch-7-clause-fault : goal.returns-then-branch-7-clause-fault
 returns-then-branch-7-clause-fault c =
     let f = c.args.f.now in
