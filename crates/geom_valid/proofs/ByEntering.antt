@@ -1,5 +1,5 @@
 -- The clauses on holes and on areas by what edges enter.
-use Rattle.std.proofs.Common.{◌≡◌, ◌⊎◌, inl, inr, ℕ, suc, ◌<◌, ◌≤◌, Bool, true, false, List, length, refl, sym, subst, arith, ◌∙◌, ap}
+use Rattle.std.proofs.Common.{◌≡◌, ◌⊎◌, inl, inr, ℕ, suc, ◌<◌, Bool, true, false, List, length, refl, sym, subst, arith, ◌∙◌, ap}
 use Rattle.std.specs.Prelude.{IsTrue, ◌↔◌}
 use Rattle.std.specs.List.{All}
 use Rattle.std.proofs.lemmas.Option.{slice_get_within}
@@ -18,7 +18,8 @@ use Rattle.valid_laws.specs.Entering.{edges_in, Enters, IsSimpleRing, LeavesShel
 use Rattle.valid_laws.proofs.Entering.RingParts.{ring_enters}
 use Rattle.valid_laws.proofs.Clauses.OverAllPoints.{swapped}
 use Rattle.geom_valid.specs.Grounds.{OverlapsEarlierHole, IsSoundArea}
-use Rattle.geom_valid.proofs.RingLists.{NoneBefore, no_ring_from, ring_shaped}
+use Rattle.geom_valid.proofs.NearPlaces.{IsSoEarlier}
+use Rattle.geom_valid.proofs.RingLists.{no_ring_from, ring_shaped}
 
 -- ---- two tests, of which the second is made where the first fails
 pub by_first : {P Q R : Type 0} (b : Bool) → b ≡ true → (IsTrue b ↔ P) → (R ↔ (P ⊎ Q)) → IsTrue b ↔ R
@@ -96,11 +97,14 @@ holes_unshared area unshared i j earlier one other one_is other_is =
     rings_unshared area unshared (suc i) (suc j) (omega (arith, earlier)) one other one_is other_is
 
 -- where none of the earlier holes overlaps the one at a place
-pub no_earlier_hole : (holes : List (List Pt)) (place : ℕ) (hole : List Pt) → IsAtPlace holes place hole → (last : ℕ) → place ≤ last
-    → NoneBefore (λ one. AreBothInside one hole) holes last → ¬ OverlapsEarlierHole holes place
-no_earlier_hole holes place hole is last past none h =
-    none h.before h.one (omega (arith, h.earlier, past)) h.one_is
-    (subst (λ other. AreBothInside h.one other) (some_same (sym h.other_is ∙ is)) h.both)
+pub no_earlier_hole : (holes : List (List Pt)) (place : ℕ) (hole : List Pt) → IsAtPlace holes place hole
+    → ((k : ℕ) → ¬ IsSoEarlier (λ one. AreBothInside one hole) holes place k) → ¬ OverlapsEarlierHole holes place
+no_earlier_hole holes place hole is none h = none h.before (record {
+  earlier = h.earlier;
+  item = h.one;
+  item_is = h.one_is;
+  is_so = subst (λ other. AreBothInside h.one other) (some_same (sym h.other_is ∙ is)) h.both;
+})
 
 pub hole_within : (holes : List (List Pt)) (place : ℕ) → OverlapsEarlierHole holes place → place < length holes
 hole_within holes place h = slice_get_within holes place h.other h.other_is

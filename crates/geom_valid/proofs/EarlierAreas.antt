@@ -1,26 +1,32 @@
 -- Areas of a figure and the earlier ones of their group.
-use Rattle.std.proofs.Common.{◌≡◌, ℕ, ◌<◌, ◌≤◌, List, length, refl, sym, ◌∙◌, subst, subst₂, ap, arith}
+use Rattle.std.proofs.Common.{◌≡◌, ◌⊎◌, inl, inr, ℕ, ◌+◌, ◌<◌, ◌≤◌, List, [], ◌∷◌, ◌++◌, length, refl, sym, ◌∙◌, subst, subst₂, ap, arith}
 use Rattle.std.specs.List.{All}
+use Rattle.std.proofs.lemmas.Option.{none-some}
 use Rattle.plane_exact.specs.declared.point.Pt.{Pt}
 use Rattle.point_set.specs.declared.figure.Area.{Area}
 use Rattle.point_set.specs.declared.figure.Figure.{Figure}
 use Rattle.point_set.specs.Shape.{IsAreaShaped, IsWellShaped}
 use Rattle.point_set.specs.Validity.{IsAtPlace, SomeArea, SomeEarlier, SomeRing, AreasShareSegment, AreasOverlap, HasTooFewPoints, CrossesItself, RingsShareSegment, HasHoleOutside, HasHolesThatOverlap, HasTouchCycle, too_few_points, ring_cross, rings_share_edge, hole_outside, holes_overlap, disconnected, elements_share_edge, elements_overlap}
 use Rattle.figure_laws.proofs.Lists.Places.{all_at, some_same}
-use Rattle.ring_sides.proofs.Rows.{few_holes}
-use Rattle.geom_valid.specs.Faults.{IsSoundAt, IsSoundUpTo}
+use Rattle.ring_sides.proofs.Laws.{few_holes}
+use Rattle.geom_valid.specs.Faults.{AreFirstAreas, IsSoundAt, IsSoundUpTo}
 use Rattle.geom_valid.specs.Grounds.{IsSoundArea}
 use Rattle.geom_valid.proofs.FirstFaults.{none_here, sound_at_first, sound_at_last, sound_on}
-use Rattle.geom_valid.proofs.RingLists.{NoneBefore, no_ring}
+use Rattle.geom_valid.proofs.NearPlaces.{IsSoEarlier, length_pushed, pushed_at}
+use Rattle.geom_valid.proofs.RingLists.{no_ring}
 
 -- ---- earlier areas
--- where no area of the group before a place is so
-pub no_earlier : (f : Figure) (place : ℕ) (area : Area) (IsSo : Area → Area → Type 0) → IsAtPlace f.areas place area → (last : ℕ) → place ≤ last
-    → NoneBefore (λ other. (area.group ≡ other.group) × IsSo area other) f.areas last → ¬ SomeEarlier f place IsSo
-no_earlier f place area IsSo at last past none h =
+-- where none of them is so beside the area at a place
+pub no_earlier : (f : Figure) (place : ℕ) (area : Area) (IsSo : Area → Area → Type 0) → IsAtPlace f.areas place area
+    → ((k : ℕ) → ¬ IsSoEarlier (λ other. (area.group ≡ other.group) × IsSo area other) f.areas place k) → ¬ SomeEarlier f place IsSo
+no_earlier f place area IsSo at none h =
     let same : h.area ≡ area = some_same (sym h.area_is ∙ at) in
-    none h.before h.other (omega (arith, h.earlier, past)) h.other_is
-    (ap (λ a. a.group) (sym same) ∙ h.same_group, subst (λ a. IsSo a h.other) same h.is_so)
+    none h.before (record {
+      earlier = h.earlier;
+      item = h.other;
+      item_is = h.other_is;
+      is_so = (ap (λ a. a.group) (sym same) ∙ h.same_group, subst (λ a. IsSo a h.other) same h.is_so);
+    })
 
 pub earlier_at : (f : Figure) (place before : ℕ) (area other : Area) (IsSo : Area → Area → Type 0) → before < place → IsAtPlace f.areas place area
     → IsAtPlace f.areas before other → area.group ≡ other.group → IsSo area other → SomeEarlier f place IsSo
@@ -40,14 +46,24 @@ sound_from area holes shaped few crossed unshared within unlapped = record {
 pub shaped_at : (f : Figure) → IsWellShaped f → (place : ℕ) (area : Area) → IsAtPlace f.areas place area → IsAreaShaped area
 shaped_at f shaped place area at = all_at IsAreaShaped f.areas place area shaped.areas at
 
--- so is one that fails no clause
-pub sound_at : (f : Figure) → IsWellShaped f → (place : ℕ) (area : Area) → IsAtPlace f.areas place area → IsSoundAt f place → IsSoundArea area
-sound_at f shaped place area at sound =
-    sound_from area (few_holes f shaped place area at) (shaped_at f shaped place area at) (λ h. sound too_few_points (some h)) (λ h. sound ring_cross (some h))
-    (λ h. sound rings_share_edge (some h)) (λ h. sound hole_outside (some h)) (λ h. sound holes_overlap (some h))
+-- ---- the areas before a place
+pub first_none : (f : Figure) (areas : List Area) → areas ≡ [] → AreFirstAreas f 0 areas
+first_none f areas empty = record {
+  count = ap length empty;
+  each = λ before area is. absurd (none-some area (subst (λ (many : List Area). IsAtPlace many before area) empty is));
+}
+
+pub first_on : (f : Figure) (place : ℕ) (areas more : List Area) (area : Area) → AreFirstAreas f place areas → more ≡ areas ++ area ∷ []
+    → IsAtPlace f.areas place area → AreFirstAreas f (place + 1) more
+first_on f place areas more area before same at = record {
+  count = ap length same ∙ length_pushed areas area ∙ ap (λ n. n + 1) before.count;
+  each = λ k other is. by k other (pushed_at areas area k other (subst (λ (many : List Area). IsAtPlace many k other) same is));
+}
   where
-    some : {IsSo : Area → Type 0} → IsSo area → SomeArea f place IsSo
-    some so = record { area = area; area_is = at; is_so = so }
+    by : (k : ℕ) (other : Area) → IsAtPlace areas k other ⊎ ((k ≡ length areas) × (area ≡ other)) → IsAtPlace f.areas k other
+    by k other (inl is) = before.each k other is
+    by k other (inr (last, same_area)) =
+        subst₂ (λ (n : ℕ) (a : Area). IsAtPlace f.areas n a) (sym (last ∙ before.count)) same_area at
 
 -- ---- after each test of the area at a place
 -- the tests of its rings one by one

@@ -19,7 +19,7 @@ use Rattle.point_set.specs.Validity.{IsAtPlace}
 use Rattle.figure_laws.proofs.Edges.Limits.{IsProper, proper_way}
 use Rattle.side_laws.proofs.Areas.Hands.{AreRingsClean, shell_hand}
 use Rattle.ring_sides.specs.Rows.{AddsArea, AddsRing, owned_edge, owned_edges, row_of}
-use Rattle.ring_sides.proofs.Rows.{row_owners}
+use Rattle.ring_sides.proofs.Laws.{row_owners}
 use Rattle.valid_laws.specs.Entering.{disc_of, edges_in, IsClean, IsSimpleRing}
 use Rattle.valid_laws.proofs.Clauses.OverAllPoints.{disc_clean, disc_edges}
 use Rattle.area_entry.specs.Grounds.{AreRowsOf}

@@ -2,6 +2,9 @@ pub mod RingLists
 pub mod ByEntering
 pub mod EarlierAreas
 pub mod GroundRows
+pub mod WiderBoxes
+pub mod NearPlaces
 pub mod RingBoxes
+pub mod AreaBoxes
 pub mod FirstFaults
 pub mod Laws

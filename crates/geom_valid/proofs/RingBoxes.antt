@@ -16,17 +16,21 @@ use Rattle.plane_exact.specs.declared.point.Seg.{Seg}
 use Rattle.plane_exact.specs.declared.window.Window.{Window}
 use Rattle.plane_exact.proofs.Laws.{shift-to_position, rise-to_position}
 use Rattle.point_set.specs.Rings.{is_same_position, edge_before, edges_after, edges_of, is_low, is_on_edges, crosses, crosses_from, differ, is_odd, is_inside}
-use Rattle.point_set.specs.Shape.{IsClosed}
+use Rattle.point_set.specs.Shape.{IsClosed, IsRingShaped}
+use Rattle.point_set.specs.Validity.{IsAtPlace}
+use Rattle.figure_laws.proofs.Lists.Places.{all_at}
 use Rattle.ring_laws.proofs.Parity.Flip.{crosses_by_sign}
 use Rattle.ring_laws.proofs.Parity.Bands.{Low}
 use Rattle.ring_laws.proofs.Parity.OneEdge.{tells_low, rise_p}
 use Rattle.ring_laws.proofs.Parity.Ring.{closed_change, is_odd_change}
-use Rattle.geom_valid.specs.Boxes.{IsInBox, IsRoundRing}
+use Rattle.valid_laws.specs.Entering.{AreBothInside}
+use Rattle.geom_valid.specs.Boxes.{AreRound, IsInBox, IsRoundRing, MeetAt}
+use Rattle.geom_valid.proofs.NearPlaces.{round_at}
 
 -- ---- the ends of a ring's edges
-record AreEndsIn (box : Window) (e : Seg) : Type 0 where
-  start : IsInBox box e.a
-  end : IsInBox box e.b
+pub record AreEndsIn (box : Window) (e : Seg) : Type 0 where
+  pub start : IsInBox box e.a
+  pub end : IsInBox box e.b
 
 -- are positions of the ring, so in its box
 ends_before : (box : Window) (b : Bool) (p q : Pt) (edges : List Seg) → IsInBox box p → IsInBox box q → All (AreEndsIn box) edges
@@ -41,7 +45,7 @@ ends_after box p (q ∷ others) hp h =
     ends_before box (is_same_position p q) p q (edges_after q others) hp hq
     (ends_after box q others hq (All-tail (IsInBox box) q others h))
 
-ends_in : (box : Window) (ring : List Pt) → IsRoundRing box ring → All (AreEndsIn box) (edges_of ring)
+pub ends_in : (box : Window) (ring : List Pt) → IsRoundRing box ring → All (AreEndsIn box) (edges_of ring)
 ends_in box [] h = All-nil (AreEndsIn box)
 ends_in box (p ∷ others) h = ends_after box p others (All-head (IsInBox box) p others h) (All-tail (IsInBox box) p others h)
 
@@ -206,3 +210,18 @@ boxes_meet box other_box one other closed other_closed round other_round p insid
   here = inside_in_box box one closed round p inside;
   there = inside_in_box other_box other other_closed other_round p other_inside;
 }
+
+-- the boxes of holes that overlap meet
+pub hole_boxes_meet : (holes : List (List Pt)) (boxes : List Window) → AreRound IsRoundRing holes boxes → All IsRingShaped holes → (place k : ℕ)
+    (hole one : List Pt) → IsAtPlace holes place hole → IsAtPlace holes k one → AreBothInside one hole → MeetAt boxes k place
+hole_boxes_meet holes boxes round shaped place k hole one hole_is one_is both =
+    let here = round_at IsRoundRing holes boxes round k one one_is in
+    let beside = round_at IsRoundRing holes boxes round place hole hole_is in
+    record {
+      box = here.box;
+      beside = beside.box;
+      box_is = here.box_is;
+      beside_is = beside.box_is;
+      common = boxes_meet here.box beside.box one hole (all_at IsRingShaped holes k one shaped one_is).closed
+          (all_at IsRingShaped holes place hole shaped hole_is).closed here.round beside.round both.p both.in_one both.in_other;
+    }

@@ -10,7 +10,7 @@ use Rattle.point_set.specs.Location.{rings_of}
 use Rattle.point_set.specs.Shape.{IsRingShaped, IsAreaShaped}
 use Rattle.point_set.specs.Validity.{IsAtPlace, SomeRing}
 use Rattle.figure_laws.proofs.Lists.Places.{some_same, all_at}
-use Rattle.ring_sides.proofs.Rows.{all_from_places}
+use Rattle.ring_sides.proofs.Laws.{all_from_places}
 
 -- ---- items by their places
 -- no item before a place is so
@@ -32,6 +32,27 @@ none_on {X} IsSo xs i item before item_is not k x below is = by_place (cases_eq 
 pub none_at_last : {X : Type 0} (IsSo : X → Type 0) (xs : List X) (i : ℕ) → NoneBefore IsSo xs i → length xs ≤ i
     → (k : ℕ) (x : X) → IsAtPlace xs k x → ¬ IsSo x
 none_at_last IsSo xs i before past k x is = before k x (omega (arith, past, slice_get_within xs k x is)) is
+
+-- every item before a place is so
+abbrev pub AllBefore : {X : Type 0} (IsSo : X → Type 0) → List X → ℕ → Type 0
+AllBefore {X} IsSo xs i = (k : ℕ) (x : X) → k < i → IsAtPlace xs k x → IsSo x
+
+pub all_first : {X : Type 0} (IsSo : X → Type 0) (xs : List X) → AllBefore IsSo xs 0
+all_first IsSo xs k x below is = absurd (omega (arith, below))
+
+-- and the next one too, of which all may be known in another way by then
+pub all_on : {X : Type 0} (IsSo IsSoNow : X → Type 0) → ((x : X) → IsSo x → IsSoNow x) → (xs : List X) (i : ℕ) (item : X) → AllBefore IsSo xs i
+    → IsAtPlace xs i item → IsSoNow item → AllBefore IsSoNow xs (i + 1)
+all_on {X} IsSo IsSoNow stays xs i item before item_is so k x below is = by_place (cases_eq k i)
+  where
+    by_place : (k ≡ i) ⊎ (k ≡ i → ⊥) → IsSoNow x
+    by_place (inl same) = subst IsSoNow (some_same (sym item_is ∙ (λ j. slice_get xs (sym same j)) ∙ is)) so
+    by_place (inr apart) = stays x (before k x (omega (arith, below, apart)) is)
+
+-- at the end all are so
+pub all_at_last : {X : Type 0} (IsSo : X → Type 0) (xs : List X) (i : ℕ) → AllBefore IsSo xs i → length xs ≤ i → All IsSo xs
+all_at_last IsSo xs i before past =
+    all_from_places IsSo xs (λ k x is. before k x (omega (arith, past, slice_get_within xs k x is)) is)
 
 -- ---- the rings of an area
 -- none of the rings is so

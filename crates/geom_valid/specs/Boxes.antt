@@ -1,10 +1,13 @@
 -- Boxes round rings and areas.
-use Rattle.std.specs.Prelude.{◌≤ℤ◌, List}
-use Rattle.std.specs.List.{All}
+use Rattle.std.specs.Prelude.{◌≡◌, ℕ, ◌≤ℤ◌, List, length}
+use Rattle.std.specs.List.{All, Contains}
 use Rattle.plane_exact.specs.declared.point.Pt.{Pt}
+use Rattle.plane_exact.specs.declared.point.Seg.{Seg}
 use Rattle.plane_exact.specs.declared.window.Window.{Window}
+use Rattle.plane_exact.specs.Windows.{HasCommonPoint, low_corner, high_corner}
 use Rattle.point_set.specs.declared.figure.Area.{Area}
 use Rattle.point_set.specs.Location.{rings_of}
+use Rattle.point_set.specs.Validity.{IsAtPlace}
 
 -- A position is in a box, its sides and corners included.
 pub record IsInBox (box : Window) (p : Pt) : Type 0 where
@@ -20,3 +23,24 @@ IsRoundRing box ring = All (IsInBox box) ring
 -- A box holds every position of an area's rings.
 abbrev pub IsRoundArea : Window → Area → Type 0
 IsRoundArea box area = All (IsRoundRing box) (rings_of area)
+
+-- Each of some figures has the box at its place round it.
+pub record AreRound {X : Type 0} (IsRound : Window → X → Type 0) (figures : List X) (boxes : List Window) : Type 0 where
+  pub count : length boxes ≡ length figures
+  pub round : (place : ℕ) (box : Window) (figure : X) → IsAtPlace boxes place box → IsAtPlace figures place figure → IsRound box figure
+
+-- The segment from the corner of a box's low sides to that of its high sides.
+abbrev pub diagonal_of : Window → Seg
+diagonal_of box = record { a = low_corner box; b = high_corner box }
+
+-- The boxes at two places have a common point.
+pub record MeetAt (boxes : List Window) (one other : ℕ) : Type 0 where
+  pub box : Window
+  pub beside : Window
+  pub box_is : IsAtPlace boxes one box
+  pub beside_is : IsAtPlace boxes other beside
+  pub common : HasCommonPoint box beside
+
+-- Each place whose box has a point in common with the box at a given place is among these places.
+abbrev pub HoldsNear : List Window → ℕ → List ℕ → Type 0
+HoldsNear boxes place near = (other : ℕ) → MeetAt boxes other place → Contains near other

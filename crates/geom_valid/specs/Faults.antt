@@ -1,7 +1,8 @@
 -- The first fault of a figure, as an answer names it.
-use Rattle.std.specs.Prelude.{◌≡◌, ℕ, ◌+◌, ◌<◌, Result, Ok, Err}
+use Rattle.std.specs.Prelude.{◌≡◌, ℕ, ◌+◌, ◌<◌, List, length, Result, Ok, Err}
+use Rattle.point_set.specs.declared.figure.Area.{Area}
 use Rattle.point_set.specs.declared.figure.Figure.{Figure}
-use Rattle.point_set.specs.Validity.{Clause, rank_of, Fails, IsFirstFault, too_few_points, ring_cross, rings_share_edge, hole_outside, holes_overlap, disconnected, elements_share_edge, elements_overlap}
+use Rattle.point_set.specs.Validity.{IsAtPlace, Clause, rank_of, Fails, IsFirstFault, too_few_points, ring_cross, rings_share_edge, hole_outside, holes_overlap, disconnected, elements_share_edge, elements_overlap}
 use Rattle.geom_valid.specs.declared.kinds.AdmitFault.{AdmitFault}
 use Rattle.geom_valid.specs.declared.kinds.AdmitFault.TheVariants as fault
 use Rattle.geom_valid.specs.declared.kinds.InvalidKind.{InvalidKind}
@@ -21,6 +22,11 @@ clause_of kind.ElementsOverlap = elements_overlap
 -- No area before a place fails a clause.
 abbrev pub AreSoundBefore : Figure → ℕ → Type 0
 AreSoundBefore f place = (before : ℕ) → before < place → (clause : Clause) → ¬ Fails f before clause
+
+-- The areas are those of a figure before a place.
+pub record AreFirstAreas (f : Figure) (place : ℕ) (areas : List Area) : Type 0 where
+  pub count : length areas ≡ place
+  pub each : (before : ℕ) (area : Area) → IsAtPlace areas before area → IsAtPlace f.areas before area
 
 -- The area at a place fails no clause.
 abbrev pub IsSoundAt : Figure → ℕ → Type 0

@@ -1,62 +1,92 @@
 ghost use Rattle.std.specs.Prelude.{◌≡◌, ◌<◌, ◌↔◌, length, IfOk, IsTrue};
-ghost use Rattle.geom_valid.specs.Faults.{AreSoundBefore};
-ghost use Rattle.geom_valid.specs.Grounds.{IsSoundArea};
-ghost use Rattle.point_set.specs.Shape.{IsWellShaped};
+ghost use Rattle.geom_valid.specs.Boxes.{AreRound, IsRoundArea};
+ghost use Rattle.geom_valid.specs.Faults.{AreFirstAreas};
+ghost use Rattle.point_set.specs.Shape.{IsAreaShaped, IsWellShaped};
 ghost use Rattle.point_set.specs.Validity.{AreasOverlap, AreasShareSegment, IsAtPlace, SomeEarlier};
 
-use crate::ring_set::RingSet;
+use crate::near_boxes::NearBoxes;
 use crate::sound_area::SoundArea;
-use plane_exact::NoMemory;
+use plane_exact::{ItemList, NoMemory};
 use point_set::{Area, Figure};
 use ring_faults::areas_share;
 use std::alloc::Global;
 
-/// Whether the area at a place has a common segment with an earlier one of its group.
-pub(crate) fn shares_with_earlier(alloc: Global, f: &Figure, place: usize) -> Result<bool, NoMemory>
+/// Whether the area at a place has a common segment with an earlier one of its group. Areas whose boxes are apart aren't compared.
+pub(crate) fn shares_with_earlier(
+    alloc: Global,
+    f: &Figure,
+    place: usize,
+    boxes: &NearBoxes,
+) -> Result<bool, NoMemory>
     requires shaped { IsWellShaped f.now }
     requires place { place < length f.now.areas }
+    requires boxes { AreRound IsRoundArea f.now.areas boxes.now }
     ensures share { IfOk result (λ b. IsTrue b ↔ SomeEarlier f.now place AreasShareSegment) }
 {
     let area = f.areas.at(place);
-    for before in 0..place {
-        let other = f.areas.at(before);
-        if area.group == other.group && areas_share(alloc, area, other)? {
+    let near = boxes.near(alloc, place)?;
+    for other in near.as_slice() {
+        let before = *other as usize;
+        if before < place && share_in_group(alloc, area, f.areas.at(before))? {
             return Ok(true);
         }
     }
     Ok(false)
 }
 
-/// Whether the area at a place has a common interior point with an earlier one of its group.
+/// Whether two areas are of one group and have a common segment.
+fn share_in_group(alloc: Global, area: &Area, other: &Area) -> Result<bool, NoMemory>
+    requires area { IsAreaShaped area.now }
+    requires other { IsAreaShaped other.now }
+    ensures share { IfOk result (λ b. IsTrue b ↔ ((area.now.group ≡ other.now.group) × AreasShareSegment area.now other.now)) }
+{
+    if area.group != other.group {
+        return Ok(false);
+    }
+    areas_share(alloc, area, other)
+}
+
+/// Whether the area at a place has a common interior point with an earlier one of its group. Areas whose boxes are apart aren't
+/// compared.
 pub(crate) fn overlaps_earlier(
     alloc: Global,
     f: &Figure,
     place: usize,
+    boxes: &NearBoxes,
     sound: &SoundArea,
+    earlier: &ItemList<SoundArea>,
 ) -> Result<bool, NoMemory>
     requires shaped { IsWellShaped f.now }
     requires place { place < length f.now.areas }
-    requires before { AreSoundBefore f.now place }
+    requires boxes { AreRound IsRoundArea f.now.areas boxes.now }
     requires area { IsAtPlace f.now.areas place sound.now }
+    requires earlier { AreFirstAreas f.now place earlier.now }
     requires unshared { ¬ SomeEarlier f.now place AreasShareSegment }
     ensures overlap { IfOk result (λ b. IsTrue b ↔ SomeEarlier f.now place AreasOverlap) }
 {
     let group = f.areas.at(place).group;
-    for before in 0..place {
-        let other = f.areas.at(before);
-        if group == other.group && overlaps_area(alloc, sound, other)? {
+    let near = boxes.near(alloc, place)?;
+    for other in near.as_slice() {
+        let before = *other as usize;
+        if before < place && overlap_in_group(alloc, group, sound, earlier.at(before))? {
             return Ok(true);
         }
     }
     Ok(false)
 }
 
-/// Whether some point is interior to both areas.
-fn overlaps_area(alloc: Global, sound: &SoundArea, other: &Area) -> Result<bool, NoMemory>
-    requires other { IsSoundArea other.now }
-    requires unshared { ¬ AreasShareSegment sound.now other.now }
-    ensures overlap { IfOk result (λ b. IsTrue b ↔ AreasOverlap sound.now other.now) }
+/// Whether an area of a group and another one of this group have a common interior point.
+fn overlap_in_group(
+    alloc: Global,
+    group: u32,
+    sound: &SoundArea,
+    other: &SoundArea,
+) -> Result<bool, NoMemory>
+    requires unshared { ¬ ((group ≡ other.now.group) × AreasShareSegment sound.now other.now) }
+    ensures overlap { IfOk result (λ b. IsTrue b ↔ ((group ≡ other.now.group) × AreasOverlap sound.now other.now)) }
 {
-    let rings = RingSet::of(alloc, other)?;
-    sound.overlaps(alloc, &SoundArea::of(alloc, rings)?)
+    if group != other.area().group {
+        return Ok(false);
+    }
+    sound.overlaps(alloc, other)
 }

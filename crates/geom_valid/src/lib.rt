@@ -2,11 +2,14 @@
 #![tactic(auto)]
 
 mod admission;
+mod boxes;
 mod clauses;
 mod disc;
 mod elements;
 mod fault;
 mod kinds;
+pub mod law;
+mod near_boxes;
 mod ring_set;
 mod rows;
 mod sound_area;

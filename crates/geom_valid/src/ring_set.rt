@@ -2,7 +2,9 @@ ghost use Rattle.std.specs.Prelude.{◌≡◌, All, IfOk};
 ghost use Rattle.point_set.specs.Shape.{IsRingShaped};
 ghost use Rattle.point_set.specs.Validity.{CrossesItself, HasTooFewPoints};
 
+use crate::boxes::ring_boxes;
 use crate::disc::Disc;
+use crate::near_boxes::NearBoxes;
 use plane_exact::{ItemList, NoMemory};
 use point_set::{Area, Paths};
 use std::alloc::Global;
@@ -17,20 +19,19 @@ pub(crate) struct RingSet<'a> {
 }
 
 impl<'a> Model for RingSet<'a> {
-    ghost use Rattle.std.specs.Prelude.{◌≡◌};
-    ghost use Rattle.point_set.specs.Validity.{RingsShareSegment};
+    ghost use Rattle.geom_valid.specs.Grounds.{AreRingsOf};
     ghost use Rattle.point_set.specs.declared.figure.Area.{Area};
 
     ghost Value = { Area };
 
     ghost view = { λ s. s.area.now };
 
-    ghost invariant = { λ s. (s.shell ≡ s.area.now.shell) × (s.holes ≡ s.area.now.holes) × (¬ RingsShareSegment s.area.now) };
+    ghost invariant = { λ s. AreRingsOf s.area.now s.shell s.holes };
 }
 
 impl<'a> RingSet<'a> {
-    ghost use Rattle.std.specs.Prelude.{◌≡◌, ◌<◌, ◌↔◌, ℕ, length, All, IfOk, IsTrue, List};
-    ghost use Rattle.plane_exact.specs.declared.point.Pt.{Pt};
+    ghost use Rattle.std.specs.Prelude.{◌≡◌, ◌<◌, ◌≤◌, ◌↔◌, length, All, IfOk, IsTrue};
+    ghost use Rattle.geom_valid.specs.Boxes.{AreRound, IsRoundRing};
     ghost use Rattle.point_set.specs.Location.{rings_of};
     ghost use Rattle.point_set.specs.Shape.{IsAreaShaped};
     ghost use Rattle.point_set.specs.Validity.{CrossesItself, HasHoleOutside, HasHolesThatOverlap, HasTooFewPoints, RingsShareSegment};
@@ -38,6 +39,7 @@ impl<'a> RingSet<'a> {
 
     /// The rings of an area.
     pub(crate) fn of(alloc: Global, area: &'a Area) -> Result<RingSet<'a>, NoMemory>
+        requires few { length area.now.holes ≤ 1048576 }
         requires shaped { IsAreaShaped area.now }
         requires enough { All (λ ring. ¬ HasTooFewPoints ring) (rings_of area.now) }
         requires simple { All (λ ring. ¬ CrossesItself ring) (rings_of area.now) }
@@ -86,22 +88,31 @@ impl<'a> RingSet<'a> {
     pub(crate) fn has_holes_that_overlap(&self, alloc: Global) -> Result<bool, NoMemory>
         ensures overlap { IfOk result (λ b. IsTrue b ↔ HasHolesThatOverlap self.now) }
     {
+        let boxes = NearBoxes::of(alloc, ring_boxes(alloc, self.area.holes.as_slice())?)?;
         for place in 0..self.holes.len() {
-            if self.overlaps_earlier(alloc, place)? {
+            if self.overlaps_earlier(alloc, place, &boxes)? {
                 return Ok(true);
             }
         }
         Ok(false)
     }
 
-    /// Whether some point is inside the hole at a place and inside an earlier one.
-    fn overlaps_earlier(&self, alloc: Global, place: usize) -> Result<bool, NoMemory>
+    /// Whether some point is inside the hole at a place and inside an earlier one. Holes whose boxes are apart aren't compared.
+    fn overlaps_earlier(
+        &self,
+        alloc: Global,
+        place: usize,
+        boxes: &NearBoxes,
+    ) -> Result<bool, NoMemory>
         requires place { place < length self.now.holes }
+        requires boxes { AreRound IsRoundRing self.now.holes boxes.now }
         ensures overlap { IfOk result (λ b. IsTrue b ↔ OverlapsEarlierHole self.now.holes place) }
     {
         let hole = self.holes.at(place);
-        for earlier in 0..place {
-            if self.holes.at(earlier).overlaps(alloc, hole)? {
+        let near = boxes.near(alloc, place)?;
+        for other in near.as_slice() {
+            let earlier = *other as usize;
+            if earlier < place && self.holes.at(earlier).overlaps(alloc, hole)? {
                 return Ok(true);
             }
         }

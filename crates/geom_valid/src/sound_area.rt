@@ -5,6 +5,7 @@ use area_entry::{NearRows, enters};
 use area_locator::locate_plain;
 use im_matrix::Loc;
 use plane_exact::NoMemory;
+use point_set::Area;
 use std::alloc::Global;
 use std::marker::Model;
 
@@ -41,6 +42,13 @@ impl<'a> SoundArea<'a> {
     {
         let rows = NearRows::new(alloc, area_rows(alloc, rings.area())?)?;
         Ok(SoundArea { rings, rows })
+    }
+
+    /// The area.
+    pub(crate) fn area(&self) -> &Area
+        ensures area { result.now ≡ self.now }
+    {
+        self.rings.area()
     }
 
     /// Whether some point is interior to both areas.

@@ -1,6 +1,18 @@
-//! Rows that cross crates: whole runs on memory, with the lines and fault lines that must come. Expected texts are worked by
-//! hand from the definitions.
+//! Rows that cross crates: whole runs on memory, and the layers below them on figures that are read from texts and admitted.
+//! Expected values are worked by hand from the definitions.
 #![tactic(auto)]
 
+#[cfg(test)]
+mod answer_rows;
+#[cfg(test)]
+mod edge_rows;
+#[cfg(test)]
+mod figures;
+#[cfg(test)]
+mod index_rows;
+#[cfg(test)]
+mod label_rows;
+#[cfg(test)]
+mod location_rows;
 #[cfg(test)]
 mod tests;

@@ -34,11 +34,22 @@ fn words_of(alloc: Global, list: &[&str]) -> Result<Vec<String>, AllocError> {
     Ok(words)
 }
 
+const THREE: &[u8] = b"POINT (1 1)\nPOLYGON ((0 0, 4 0, 4 4, 0 4, 0 0))\nLINESTRING (0 0, 4 4)\n";
+
+const FIVE: &[u8] =
+    b"POINT (1 1)\nPOINT (0 0)\nLINESTRING (0 4, 4 0)\nPOLYGON ((2 2, 6 2, 6 6, 2 6, 2 2))\nPOINT EMPTY\n";
+
+// Which of the three meet which of the five.
+const MEET: &str =
+    "true\nfalse\nfalse\nfalse\nfalse\ntrue\ntrue\ntrue\ntrue\nfalse\ntrue\ntrue\ntrue\ntrue\nfalse\n";
+
 fn files_of(alloc: Global) -> Result<NamedBytes, NoMemory> {
     let mut files = NamedBytes::new(alloc);
     files.add("two.wkt", b"POINT (0 0)\nPOINT (1 1)\n")?;
     files.add("empty.wkt", b"")?;
     files.add("stdin", b"POINT (1 1)")?;
+    files.add("three.wkt", THREE)?;
+    files.add("five.wkt", FIVE)?;
     Ok(files)
 }
 
@@ -226,6 +237,20 @@ fn a_call_that_fails_ends_the_run(rt: HostRuntime) -> Result<(), Fail> {
     let inputs = MemInputs::new(files_of(alloc)?, PlaceList::new(alloc), 7);
     let cut = run_on(&rt, &list, inputs, &[2])?;
     assert!(rt; cut.is(Status::WriteFault, "FF0FFF0F2\n", "geosop: write fault\n"));
+    Ok(())
+}
+
+#[test]
+fn fifteen_pairs(rt: HostRuntime) -> Result<(), Fail> {
+    let alloc = rt.alloc();
+    let list = ["geosop", "-a", "three.wkt", "-b", "five.wkt", "intersects"];
+    assert!(rt; run_words(&rt, &list)?.is(Status::Ok, MEET, ""));
+    let inputs = MemInputs::new(files_of(alloc)?, PlaceList::new(alloc), 7);
+    let cut = run_on(&rt, &list, inputs, &[3])?;
+    assert!(rt; cut.is(Status::WriteFault, "true\nfalse\n", "geosop: write fault\n"));
+    let second_call = MemInputs::new(files_of(alloc)?, places_of(alloc, &[2])?, 7);
+    let unread = run_on(&rt, &list, second_call, &[])?;
+    assert!(rt; unread.is(Status::ReadFault, "", "geosop: read fault\n"));
     Ok(())
 }
 

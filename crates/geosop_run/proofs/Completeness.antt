@@ -1,5 +1,5 @@
 -- What a run says by its status leaves one status for each command line and input, but for want of memory and counted faults.
-use Rattle.std.proofs.Common.{◌≡◌, ℕ, List, None, ◌⊎◌, inl, inr, refl, ap, subst, arith}
+use Rattle.std.proofs.Common.{◌≡◌, ℕ, true, List, None, ◌⊎◌, inl, inr, refl, ap, subst, arith}
 use Rattle.im_matrix.specs.declared.Which.{Which}
 use Rattle.im_matrix.specs.declared.Which.TheVariants.{A, B}
 use Rattle.point_set.specs.declared.figure.Figure.{Figure}
@@ -155,8 +155,9 @@ module _ (line : LineHasOneAnswer) (run : Run) where
     ]
 
   -- what a run says, with what comes of its words
-  pub run_of : (ended : Status) → SaysOf run ended → ((side : Which) → IsAskedRightly run side) → IsLastAsked run → IsRun run ended
-  run_of ended says asked last = record {
+  pub run_of : (ended : Status) → SaysOf run ended → ((side : Which) → IsAskedRightly run side) → IsLastAsked run
+      → ((command : Config) → IsLine run.words command → command.quiet ≡ true → IsUnwritten run) → IsRun run ended
+  run_of ended says asked last quiet = record {
     says = says;
     asked = asked;
     b_last = last;
@@ -167,6 +168,7 @@ module _ (line : LineHasOneAnswer) (run : Run) where
       refusal = refusal_comes command is ended says;
       refusal_of_a = refusal_of_a_comes command is ended says;
       b_unasked = b_unasked command is last;
+      quiet = quiet command is;
       unwritten = unwritten command is ended says;
     };
   }

@@ -7,3 +7,5 @@ pub mod OneAnswer
 pub mod SideFaults
 pub mod Completeness
 pub mod Ran
+pub mod SampleNumber
+pub mod Popped

@@ -1,10 +1,10 @@
 -- Texts of one part for each item of a list, offered item by item.
-use Rattle.std.proofs.Common.{◌≡◌, ℕ, ◌+◌, ◌<◌, ◌≤◌, List, [], ◌∷◌, ◌++◌, Result, Ok, Err, refl, sym, subst, ◌∙◌, ap, append_assoc, length, length-append, take, drop, get_or, arith}
+use Rattle.std.proofs.Common.{◌≡◌, ℕ, ◌+◌, ◌<◌, ◌≤◌, List, [], ◌∷◌, ◌++◌, Ok, Err, refl, sym, subst, ◌∙◌, ap, append_assoc, length, length-append, take, drop, get_or, arith}
 use Rattle.std.specs.List.{All, flat_map}
 use Rattle.std.proofs.lemmas.List.{take_more, drop_more, take_all, take_at, drop_at, take-append-drop, take-append-le, append-nil}
 use Rattle.std.proofs.lemmas.List.Elements.{All-head, All-tail}
 use Rattle.std.proofs.Math.Seq.{take-add}
-use Rattle.geosop_io.specs.Sink.{SinkSeen, HasTakenFront, HasFailedAt, after_taking, after_fault}
+use Rattle.geosop_io.specs.Sink.{SinkSeen, HasFailedAt, after_taking, after_fault}
 use Rattle.geosop_io.proofs.Laws.{after_taking-nil, after_taking-append}
 use Rattle.geosop_run.specs.declared.pairs.PairFault.{PairFault}
 use Rattle.geosop_run.specs.declared.pairs.PairFault.TheVariants as fault

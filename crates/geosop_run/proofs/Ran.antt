@@ -1,5 +1,6 @@
 -- The steps of a run, put together.
-use Rattle.std.proofs.Common.{◌≡◌, ℕ, ◌≤◌, List, None, Err, inl, inr, refl, sym, ap, subst, ◌∙◌}
+use Rattle.std.proofs.Common.{◌≡◌, ℕ, ◌≤◌, Bool, true, false, List, None, Result, Ok, Err, inl, inr, refl, sym, ap, subst, ◌∙◌}
+use Rattle.std.proofs.lemmas.Bool.{true≢false}
 use Rattle.std.specs.Io.KnownBytes.{IsAtEnd}
 use Rattle.im_matrix.specs.declared.Which.{Which}
 use Rattle.im_matrix.specs.declared.Which.TheVariants.{A, B}
@@ -19,10 +20,10 @@ use Rattle.geosop_run.specs.declared.sources.SideFault.TheVariants as fault
 use Rattle.geosop_run.specs.declared.status.Refusal.{Refusal}
 use Rattle.geosop_run.specs.declared.status.Status.TheVariants as status
 use Rattle.geosop_line.specs.CommandLine.{IsLine, IsLineFault}
-use Rattle.geosop_run.specs.Asking.{IfNamed, bytes_of, IsAskedOrNot, IsAdmittedFrom, IsReadToEnd, IsRefusedFrom, IsSideFault, side_of}
+use Rattle.geosop_run.specs.Asking.{IfNamed, bytes_of, IsAskedOrNot, IsAdmittedFrom, IsReadToEnd, IsRefusedFrom, IsSideFault}
 use Rattle.geosop_run.specs.Sources.{most_bytes, IsRefusalOf, IsFirstRefusal}
 use Rattle.geosop_run.specs.Statuses.{status_of_words, status_of_side, status_of_pairs}
-use Rattle.geosop_run.specs.Text.{IsTextOf, IsTextUnless, IsWritten}
+use Rattle.geosop_run.specs.Text.{IsOutcome, IsTextUnless, IsToldOf, IsWritten}
 use Rattle.geosop_run.specs.Run.{Run, source_of_side, HasBytes, IsAdmittedAs, IsUnwritten, HasText, HasComeTo, SaysOf, IsAskedRightly, IsLastAsked, IsRun}
 use Rattle.geosop_run.proofs.Completeness.{LineHasOneAnswer, run_of}
 
@@ -118,6 +119,16 @@ module _ (run : Run) (command : Config) (is : IsLine run.words command) where
   side_says side fault.NoMemory come unwritten h =
       inr (record { command = command; is_command = is; holds = record { written = inl unwritten; read_well = h } })
 
+-- ---- what came of what is told
+-- the fault, where there is one
+abbrev fault_in : Result (Unit {0}) PairFault → PairFault
+fault_in (Ok done) = pair.NoMemory
+fault_in (Err found) = found
+
+abbrev ended_well : Result (Unit {0}) PairFault → Bool
+ended_well (Ok done) = true
+ended_well (Err found) = false
+
 -- ---- where a run ends
 module _ (law : LineHasOneAnswer) (words : List (List ℕ)) (s0 : InputsSeen) (o0 : SinkSeen) (a_new : s0.asked A ≡ None)
     (b_new : s0.asked B ≡ None)
@@ -135,7 +146,7 @@ module _ (law : LineHasOneAnswer) (words : List (List ℕ)) (s0 : InputsSeen) (o
     none_asked B = inl b_new
 
     pub at_words : (found : LineFault) → IsLineFault words found → IsRun (ended_in s0 o0) (status_of_words found)
-    at_words found h = run_of law (ended_in s0 o0) (status_of_words found) (words_say found h) none_asked (inl b_new)
+    at_words found h = run_of law (ended_in s0 o0) (status_of_words found) (words_say found h) none_asked (inl b_new) (λ command is quiet. refl)
 
     module _ (command : Config) (is : IsLine words command) (s1 : InputsSeen) (others_a : KeepsOthers A s0 s1)
         (asked_a : IsAskedOrNot command.a (s1.asked A))
@@ -147,8 +158,7 @@ module _ (law : LineHasOneAnswer) (words : List (List ℕ)) (s0 : InputsSeen) (o
             let run = ended_in s1 o0 in
             let none : s1.asked B ≡ None = others_a.other_side.asked ∙ b_new in
             run_of law run (status_of_side found) (side_says run command is A found none refl h)
-            (both_rightly run command is asked_a (inl none))
-            (inl none)
+            (both_rightly run command is asked_a (inl none)) (inl none) (λ other is_other quiet. refl)
 
         module _ (in_a : List Figure) (admitted_a : IsAdmittedFrom command.scale.digits A command.a s0 s1 in_a)
             (uncounted_a : s1.faults ≡ s0.faults)
@@ -172,49 +182,81 @@ module _ (law : LineHasOneAnswer) (words : List (List ℕ)) (s0 : InputsSeen) (o
                 let run = ended_in s2 o0 in
                 let since = fault_since command.scale.digits B command.b s0 s1 s2 found others_a.holds uncounted_a h in
                 run_of law run (status_of_side found) (side_says run command is B found (in_a, still_a o0) refl since) (asked_both o0)
-                (last_asked o0)
+                (last_asked o0) (λ other is_other quiet. refl)
 
             module _ (in_b : List Figure) (admitted_b : IsAdmittedFrom command.scale.digits B command.b s1 s2 in_b)
                 (uncounted_b : s2.faults ≡ s1.faults)
-                (o : SinkSeen) (text : List ℕ) (is_text : IsTextUnless command.quiet (IsTextOf command.rule command.query in_a in_b) text)
+                (o : SinkSeen) (unless_quiet : command.quiet ≡ true → o ≡ o0)
               where
-                of_pairs : HasText (ended_in s2 o) command text
-                of_pairs = record {
-                  in_a = in_a;
-                  in_b = in_b;
-                  admitted_a = still_a o;
-                  admitted_b = admitted_since command.scale.digits B command.b s0 s1 s2 in_b others_a.holds admitted_b;
-                  is_text = is_text;
-                }
+                -- a quiet run writes nothing
+                none_written : (other : Config) → IsLine words other → other.quiet ≡ true → o ≡ o0
+                none_written other is_other quiet =
+                    unless_quiet (subst (λ (of : Config). of.quiet ≡ true) (law.config words other command is_other is) quiet)
 
-                -- in the pairs
-                pairs_say : (found : PairFault) → IsWritten (Err found) o0 o text → SaysOf (ended_in s2 o) (status_of_pairs found)
-                pairs_say pair.WriteFault front = record {
-                  command = command;
-                  is_command = is;
-                  holds = record { text = text; of_pairs = of_pairs; front = front; read_well = uncounted_b ∙ uncounted_a };
-                }
-                pairs_say pair.NoMemory front =
-                    inr (record {
+                -- before anything was written
+                at_starved : o ≡ o0 → IsRun (ended_in s2 o) status.NoMemory
+                at_starved unwritten =
+                    run_of law (ended_in s2 o) status.NoMemory
+                    (inr (record {
                       command = command;
                       is_command = is;
-                      holds = record {
-                        written = inr (record { text = text; of_pairs = of_pairs; front = front });
-                        read_well = uncounted_b ∙ uncounted_a;
-                      };
-                    })
+                      holds = record { written = inl unwritten; read_well = uncounted_b ∙ uncounted_a };
+                    }))
+                    (asked_both o) (last_asked o) none_written
 
-                pub at_pairs : (found : PairFault) → IsWritten (Err found) o0 o text → IsRun (ended_in s2 o) (status_of_pairs found)
-                at_pairs found front =
-                    run_of law (ended_in s2 o) (status_of_pairs found) (pairs_say found front) (asked_both o) (last_asked o)
+                module _ (text : List ℕ)
+                    (is_text : IsTextUnless command.quiet (IsToldOf command.sample command.rule command.query in_a in_b) text)
+                  where
+                    of_pairs : HasText (ended_in s2 o) command text
+                    of_pairs = record {
+                      in_a = in_a;
+                      in_b = in_b;
+                      admitted_a = still_a o;
+                      admitted_b = admitted_since command.scale.digits B command.b s0 s1 s2 in_b others_a.holds admitted_b;
+                      is_text = is_text;
+                    }
 
-                -- behind the last
-                pub at_end : o ≡ after_taking o0 text → IsRun (ended_in s2 o) status.Ok
-                at_end written =
-                    run_of law (ended_in s2 o) status.Ok
-                    (record {
+                    -- in the pairs
+                    pairs_say : (found : PairFault) → IsWritten (Err found) o0 o text → SaysOf (ended_in s2 o) (status_of_pairs found)
+                    pairs_say pair.WriteFault front = record {
                       command = command;
                       is_command = is;
-                      holds = record { text = text; of_pairs = of_pairs; written = written; read_well = uncounted_b ∙ uncounted_a };
-                    })
-                    (asked_both o) (last_asked o)
+                      holds = record { text = text; of_pairs = of_pairs; front = front; read_well = uncounted_b ∙ uncounted_a };
+                    }
+                    pairs_say pair.NoMemory front =
+                        inr (record {
+                          command = command;
+                          is_command = is;
+                          holds = record {
+                            written = inr (record { text = text; of_pairs = of_pairs; front = front });
+                            read_well = uncounted_b ∙ uncounted_a;
+                          };
+                        })
+
+                    at_pairs : (found : PairFault) → IsWritten (Err found) o0 o text → IsRun (ended_in s2 o) (status_of_pairs found)
+                    at_pairs found front =
+                        run_of law (ended_in s2 o) (status_of_pairs found) (pairs_say found front) (asked_both o) (last_asked o) none_written
+
+                    -- behind the last
+                    at_end : o ≡ after_taking o0 text → IsRun (ended_in s2 o) status.Ok
+                    at_end written =
+                        run_of law (ended_in s2 o) status.Ok
+                        (record {
+                          command = command;
+                          is_command = is;
+                          holds = record { text = text; of_pairs = of_pairs; written = written; read_well = uncounted_b ∙ uncounted_a };
+                        })
+                        (asked_both o) (last_asked o) none_written
+
+                -- by what came of what is told
+                abbrev IsToldAs : Result (Unit {0}) PairFault → Type 0
+                IsToldAs result = IsOutcome (IsTextUnless command.quiet (IsToldOf command.sample command.rule command.query in_a in_b)) result o0 o
+
+                pub at_fault : (found : PairFault) → IsToldAs (Err found) → IsRun (ended_in s2 o) (status_of_pairs found)
+                at_fault found (inl told) = at_pairs told.text told.is_text found told.written
+                at_fault found (inr starved) =
+                    subst (λ of. IsRun (ended_in s2 o) (status_of_pairs of)) (sym (ap fault_in starved.wanting)) (at_starved starved.unwritten)
+
+                pub at_ok : (done : Unit {0}) → IsToldAs (Ok done) → IsRun (ended_in s2 o) status.Ok
+                at_ok done (inl told) = at_end told.text told.is_text told.written
+                at_ok done (inr starved) = absurd (true≢false (ap ended_well starved.wanting))

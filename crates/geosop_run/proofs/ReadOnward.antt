@@ -1,5 +1,5 @@
 -- The end of a text that is read lies behind its beginning.
-use Rattle.std.proofs.Common.{◌≡◌, ℕ, ◌<◌, ◌≤◌, List, [], ◌∷◌, inl, inr, sym, subst, ◌∙◌, arith}
+use Rattle.std.proofs.Common.{ℕ, ◌<◌, ◌≤◌, List, [], ◌∷◌, inl, inr, sym, subst, ◌∙◌, arith}
 use Rattle.point_set.specs.declared.figure.Figure.{Figure}
 use Rattle.wkt_text.specs.Tokens.{lexeme_at}
 use Rattle.wkt_text.specs.Faults.{Stands, Reads}

@@ -1,5 +1,5 @@
 -- The headline: what a run says by its status, and which status comes of which words and bytes.
-use Rattle.std.specs.Prelude.{◌≡◌, ℕ, ◌⊎◌, List, Some, None}
+use Rattle.std.specs.Prelude.{◌≡◌, ℕ, ◌⊎◌, true, List, Some, None}
 use Rattle.im_matrix.specs.declared.Which.{Which}
 use Rattle.im_matrix.specs.declared.Which.TheVariants.{A, B}
 use Rattle.point_set.specs.declared.figure.Figure.{Figure}
@@ -15,7 +15,7 @@ use Rattle.geosop_run.specs.declared.status.Status.TheVariants as status
 use Rattle.geosop_line.specs.CommandLine.{IsLine, IsFirstFault}
 use Rattle.geosop_run.specs.Asking.{name_of, bytes_of, side_of, IsAdmittedFrom, IsRefusedFrom, IsUnreadable}
 use Rattle.geosop_run.specs.Sources.{IsRefusalOf, IsAdmitted, IsFirstRefusal}
-use Rattle.geosop_run.specs.Text.{IsTextOf, IsTextUnless}
+use Rattle.geosop_run.specs.Text.{IsTextUnless, IsToldOf}
 
 -- What a run is given and what it leaves: the words of its command line, and what is seen of its inputs and of its output before
 -- it and after it.
@@ -49,13 +49,14 @@ IsReadWell run = run.inputs_after.faults ≡ run.inputs_before.faults
 abbrev pub IsUnwritten : Run → Type 0
 IsUnwritten run = run.output_after ≡ run.output_before
 
--- Both sides are admitted, and these are the lines of all their pairs, in order; a quiet run has none.
+-- Both sides are admitted, and this is what is told of their pairs: the lines of all, in order, or under a sample the summary of
+-- its lines. A quiet run tells nothing.
 pub record HasText (run : Run) (command : Config) (text : List ℕ) : Type 0 where
   pub in_a : List Figure
   pub in_b : List Figure
   pub admitted_a : IsAdmittedAs run command A in_a
   pub admitted_b : IsAdmittedAs run command B in_b
-  pub is_text : IsTextUnless command.quiet (IsTextOf command.rule command.query in_a in_b) text
+  pub is_text : IsTextUnless command.quiet (IsToldOf command.sample command.rule command.query in_a in_b) text
 
 -- Ok: the output took the whole text, and no fault was counted.
 pub record SaysOk (run : Run) (command : Config) : Type 0 where
@@ -162,6 +163,8 @@ pub record ComesOf (run : Run) (command : Config) (ended : Status) : Type 0 wher
       → IsRefusedOrStopped ended found
   pub b_unasked : (a : List ℕ) → HasBytes run command A a → (found : Refusal) → IsRefusalOf command.scale.digits A a found
       → run.inputs_after.asked B ≡ None
+  -- A quiet run writes nothing, and no fault of its output is counted.
+  pub quiet : command.quiet ≡ true → IsUnwritten run
   -- Where a side has a refusal nothing is written, whatever the status and the other side.
   pub unwritten : (side : Which) (bytes : List ℕ) → HasBytes run command side bytes
       → (found : Refusal) → IsRefusalOf command.scale.digits side bytes found → IsUnwritten run

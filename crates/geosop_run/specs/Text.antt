@@ -1,7 +1,8 @@
 -- What a run writes: a line for each pair, with the answer on the matrix of the two point sets.
-use Rattle.std.specs.Prelude.{◌≡◌, ℕ, Bool, true, false, List, [], ◌∷◌, ◌++◌, Result, Ok, Err, codes}
+use Rattle.std.specs.Prelude.{◌≡◌, ◌⊎◌, ℕ, Bool, true, false, List, [], ◌∷◌, ◌++◌, Option, Some, None, Result, Ok, Err, codes}
 use Rattle.im_matrix.specs.Cells.{matrix_text}
 use Rattle.im_matrix.specs.declared.Matrix.{Matrix}
+use Rattle.im_matrix.specs.declared.Which.TheVariants.{A, B}
 use Rattle.point_set.specs.declared.figure.Figure.{Figure}
 use Rattle.point_set.specs.declared.rule.Rule.{Rule}
 use Rattle.point_set.specs.Relation.{IsMatrixOf}
@@ -10,6 +11,8 @@ use Rattle.topo_pred.specs.declared.Query.{Query}
 use Rattle.topo_pred.specs.declared.Answer.{Answer}
 use Rattle.topo_pred.specs.declared.Answer.TheVariants.{Im, Truth}
 use Rattle.topo_pred.specs.Values.{value_of}
+use Rattle.sample_figures.specs.Samples.{figures_of_sample}
+use Rattle.line_summary.specs.Summary.{IsSummaryOf}
 use Rattle.geosop_io.specs.Sink.{SinkSeen, HasTakenFront, HasFailedAt, after_taking}
 use Rattle.geosop_run.specs.declared.pairs.PairFault.{PairFault}
 use Rattle.geosop_run.specs.declared.pairs.PairFault.TheVariants as fault
@@ -51,6 +54,19 @@ IsRowOf rule query in_b a = IsTextOfEach (IsLineOf rule query a) in_b
 abbrev pub IsTextOf : Rule → Query → List Figure → List Figure → List ℕ → Type 0
 IsTextOf rule query in_a in_b = IsTextOfEach (IsRowOf rule query in_b) in_a
 
+-- The summary of a text of this kind.
+pub record IsSummedUp (IsText : List ℕ → Type 0) (summary : List ℕ) : Type 0 where
+  pub text : List ℕ
+  pub is_text : IsText text
+  pub summed : IsSummaryOf text summary
+
+-- What is told of all pairs: their lines. Under a sample its figures stand in place of both sides, and the summary of the lines
+-- in place of the lines.
+abbrev pub IsToldOf : Option ℕ → Rule → Query → List Figure → List Figure → List ℕ → Type 0
+IsToldOf None rule query in_a in_b text = IsTextOf rule query in_a in_b text
+IsToldOf (Some number) rule query in_a in_b text =
+    IsSummedUp (IsTextOf rule query (figures_of_sample number A) (figures_of_sample number B)) text
+
 -- A text of this kind, or none where the run is quiet.
 abbrev pub IsTextUnless : Bool → (List ℕ → Type 0) → List ℕ → Type 0
 IsTextUnless true IsText text = text ≡ []
@@ -67,3 +83,12 @@ pub record IsTextWritten (IsText : List ℕ → Type 0) (result : Result (Unit {
   pub text : List ℕ
   pub is_text : IsText text
   pub written : IsWritten result old new text
+
+-- Memory was wanting before anything was written.
+pub record IsStarved (result : Result (Unit {0}) PairFault) (old new : SinkSeen) : Type 0 where
+  pub wanting : result ≡ Err fault.NoMemory
+  pub unwritten : new ≡ old
+
+-- What came of what a run was to tell: a text of this kind was to be written, or memory was wanting before.
+abbrev pub IsOutcome : (List ℕ → Type 0) → Result (Unit {0}) PairFault → SinkSeen → SinkSeen → Type 0
+IsOutcome IsText result old new = IsTextWritten IsText result old new ⊎ IsStarved result old new

@@ -4,9 +4,11 @@
 mod discard;
 mod figures;
 mod gate;
+mod gathered;
 mod output;
 mod pairs;
 mod program;
+mod samples;
 mod sides;
 mod sources;
 mod status;
@@ -14,4 +16,5 @@ mod status;
 pub use gate::{Free, Gate};
 pub use geosop_line::{Config, LineFault, Source, UsageFault, read_line};
 pub use program::run;
+pub use sample_figures::{SamplePair, sample};
 pub use status::{Refusal, Status};

@@ -4,10 +4,9 @@ ghost use Rattle.geosop_io.specs.Sink.{IsTried};
 ghost use Rattle.geosop_run.specs.Statuses.{fault_line, status_of as status_of_result};
 ghost use Rattle.geosop_run.specs.Run.{IsRun};
 
-use crate::discard::Discard;
 use crate::gate::Gate;
 use crate::output::offer_fault_line;
-use crate::pairs::{PairFault, Question, offer_unless_quiet};
+use crate::pairs::{PairFault, Question, Task, offer_told};
 use crate::sides::admit_side;
 use crate::sources::SideFault;
 use crate::status::Status;
@@ -94,23 +93,21 @@ fn relate_sources<I: Inputs, O: Sink>(
     let config = read_line(alloc, words)?;
     let in_a = admit_side(alloc, inputs, Which::A, config.a, config.scale)?;
     let in_b = admit_side(alloc, inputs, Which::B, config.b, config.scale)?;
-    let asked = Question {
-        rule: config.rule,
-        query: config.query,
+    let task = Task {
+        asked: Question {
+            rule: config.rule,
+            query: config.query,
+        },
+        sample: config.sample,
+        quiet: config.quiet,
     };
-    offer_unless_quiet(
-        alloc,
-        out,
-        in_a.as_slice(),
-        in_b.as_slice(),
-        asked,
-        config.quiet,
-    )?;
+    offer_told(alloc, out, in_a.as_slice(), in_b.as_slice(), task)?;
     Ok(())
 }
 
 /// Runs the program on its words: reads the command line, then source A and its figures, then source B and its figures,
-/// and writes for each A in order and each B in order the line of the pair. The first word is the program's name.
+/// and writes for each A in order and each B in order the line of the pair. Under a sample its figures take the place of both
+/// sources', and the summary of the lines is written. The first word is the program's name.
 ///
 /// Where the status isn't Ok, the fault line is tried on `err`; a failure there changes nothing.
 pub fn run<R: Threads + Sync, I: Inputs, O: Sink, E: Sink, G: Gate>(

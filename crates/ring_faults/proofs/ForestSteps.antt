@@ -1,14 +1,14 @@
 -- One link more of a sorted list, and what it does to the labels.
-use Rattle.std.proofs.Common.{◌≡◌, ◌≢◌, ℕ, ◌+◌, ◌-◌, ◌<◌, ◌≤◌, List, [], ◌∷◌, ◌++◌, take, drop, ap, refl, sym, ◌∙◌, subst, Less, arith}
-use Rattle.std.specs.List.{All, AllPairs, Contains, range_with_len}
+use Rattle.std.proofs.Common.{◌≡◌, ◌≢◌, ◌⊎◌, ℕ, ◌+◌, ◌-◌, ◌≤◌, List, [], ◌∷◌, ◌++◌, take, drop, ap, refl, sym, ◌∙◌, subst, Less, arith}
+use Rattle.std.specs.List.{AllPairs, Contains, range_with_len}
 use Rattle.std.proofs.lemmas.List.{take_more, take-append-drop}
-use Rattle.std.proofs.lemmas.List.FromFn.{get_or-range_with_len, length-range_with_len}
 use Rattle.std.proofs.lemmas.Option.{get_or_from_slice_get, slice_get_within}
 use Rattle.plane_exact.specs.declared.node.Node.{Node}
 use Rattle.point_set.specs.Validity.{IsAtPlace}
 use Rattle.ring_faults.specs.declared.link.Link.{Link}
 use Rattle.ring_faults.specs.Links.{compare_links, IsLinked, HasCycle, IsRelabelled}
 use Rattle.ring_faults.proofs.FirstLinks.{first_link}
+use Rattle.ring_faults.proofs.Labels.{own_label, merged_either}
 use Rattle.ring_faults.proofs.LinkOrder.{new_there, old_before, fresh_there}
 use Rattle.ring_faults.proofs.NextLinks.{cycle_link, next_link}
 use Rattle.ring_faults.proofs.Ways.{cycle_more}
@@ -17,15 +17,6 @@ use Rattle.ring_faults.proofs.Forests.{IsForest, with_link}
 -- ---- no links
 none_linked : (n : Node) (i : ℕ) → ¬ IsLinked [] n i
 none_linked n i h = let below = h.1 in omega (arith, below)
-
--- a ring's own label is its place
-own_label : (count i label : ℕ) → IsAtPlace (range_with_len 0 count) i label → i ≡ label
-own_label count i label h =
-    let within = slice_get_within (range_with_len 0 count) i label h in
-    let below : i < count = omega (arith, within, length-range_with_len 0 count) in
-    let e = get_or-range_with_len 0 count i 0 below in
-    let f = get_or_from_slice_get (range_with_len 0 count) i label 0 h in
-    omega (arith, e, f)
 
 -- no links: each ring has a label of its own
 pub none_forest : (count : ℕ) → IsForest [] (range_with_len 0 count)
@@ -71,10 +62,13 @@ module _ (links : List Link) (up : AllPairs (λ l m. compare_links l m ≡ Less)
   -- the node of the link before, and a ring of another label
   pub joined_forest :
       (labels new : List ℕ) (from to : ℕ) → IsForest (take i links) labels → head.node ≡ link.node → IsAtPlace labels link.ring from
-      → IsAtPlace labels head.ring to → from ≢ to → IsRelabelled from to labels new → IsForest (take (i + 1) links) new
-  joined_forest labels new from to forest same at head_at other relabelled =
+      → IsAtPlace labels head.ring to → from ≢ to → IsRelabelled from to labels new ⊎ IsRelabelled to from labels new
+      → IsForest (take (i + 1) links) new
+  joined_forest labels new from to forest same at head_at other joined =
+      let merged = merged_either from to labels new other joined in
       subst (λ (ls : List Link). IsForest ls new) (sym more)
-      (next_link (take i links) labels forest link.node head.ring link.ring from to (head_linked same) at head_at other new relabelled)
+      (next_link (take i links) labels forest link.node head.ring link.ring from to (head_linked same) at head_at other new merged.0
+      merged.1)
 
   -- and a ring of the same label
   pub closed_cycle :
@@ -85,11 +79,6 @@ module _ (links : List Link) (up : AllPairs (λ l m. compare_links l m ≡ Less)
       subst HasCycle (sym more) (cycle_link (take i links) labels forest link.node head.ring link.ring label (head_linked same)
       (new_there links up i link link_is) at head_at) in
       subst HasCycle (take-append-drop (i + 1) links) (cycle_more (take (i + 1) links) (drop (i + 1) links) some)
-
--- ---- what the code reads
-pub ring_below : (links : List Link) (count i : ℕ) (l : Link) → All (λ m. m.ring < count) links → IsAtPlace links i l → l.ring < count
-ring_below links count i l all l_is =
-    subst (λ (m : Link). m.ring < count) (get_or_from_slice_get links i l l l_is) (all i l (slice_get_within links i l l_is))
 
 -- a place from 1 on has a place before it
 pub before_there : (i : ℕ) → 1 ≤ i → i ≡ (i - 1) + 1

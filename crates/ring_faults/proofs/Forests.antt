@@ -37,10 +37,6 @@ pub record IsForest (links : List Link) (labels : List ℕ) : Type 0 where
   pub one : (n : Node) (i j : ℕ) → IsLinked links n i → IsLinked links n j → slice_get labels i ≡ slice_get labels j
   pub none : ¬ HasCycle links
 
--- A label is replaced where it is the one, and stays where it isn't.
-abbrev pub IsSwapped : ℕ → ℕ → ℕ → ℕ → Type 0
-IsSwapped from to old new = (old ≡ from → new ≡ to) × (old ≢ from → new ≡ old)
-
 -- The links with one more at the end.
 abbrev pub with_link : List Link → Node → ℕ → List Link
 with_link links n i = links ++ (record { node = n; ring = i }) ∷ []

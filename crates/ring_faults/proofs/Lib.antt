@@ -8,6 +8,7 @@ pub mod FirstLinks
 pub mod NextLinks
 pub mod Cycles
 pub mod ForestSteps
+pub mod ClassSteps
 pub mod Overlaps
 pub mod Unjoined
 pub mod FewPoints

@@ -1,17 +1,17 @@
 -- A node that has links takes another: with a ring of an equal label that closes a cycle, and with a ring of a different
 -- label the two labels become one, and no cycle comes up.
-use Rattle.std.proofs.Common.{◌≡◌, ◌≢◌, ◌⊎◌, inl, inr, ℕ, ◌<◌, List, [], ◌∷◌, ◌++◌, length, length-append, Some, ap, refl, sym, ◌∙◌, subst}
+use Rattle.std.proofs.Common.{◌≡◌, ◌≢◌, ◌⊎◌, inl, inr, ℕ, ◌<◌, List, [], ◌∷◌, ◌++◌, length, length-append, ap, refl, sym, ◌∙◌, subst}
 use Rattle.std.proofs.Common.{slice_get, arith}
 use Rattle.std.specs.List.{All}
 use Rattle.std.proofs.lemmas.List.Elements.{All-nil, All-cons, All-head, All-tail, All-append}
 use Rattle.plane_exact.specs.declared.node.Node.{Node}
 use Rattle.point_set.specs.Validity.{IsAtPlace}
 use Rattle.ring_faults.specs.declared.link.Link.{Link}
-use Rattle.ring_faults.specs.Links.{IsLinked, Step, IsApartFrom, AreStepsApart, HasCycle, IsRelabelled}
+use Rattle.ring_faults.specs.Links.{IsLinked, Step, IsApartFrom, AreStepsApart, HasCycle}
 use Rattle.ring_faults.proofs.Steps.{all_front, all_rest, AreAcross, apart_front, apart_rest, apart_across, apart_joined, across_by}
 use Rattle.ring_faults.proofs.Ways.{AreKept, kept_left, path_more, path_joined, path_links, AvoidsNode, IsCutAt, cut, path_cycle}
 use Rattle.ring_faults.proofs.FirstLinks.{IsNew, link_cases, link_new, IsRound, cycle_round, round_cycle}
-use Rattle.ring_faults.proofs.Labels.{label_differs, ring_differs, WasLabel, was_label, same_still}
+use Rattle.ring_faults.proofs.Labels.{label_differs, ring_differs, WasMerged, AreMerged}
 use Rattle.ring_faults.proofs.Forests.{IsForest, IsJoined, IsPath, with_link}
 
 -- a step has another ring than the stated one, and another node
@@ -274,10 +274,7 @@ module _ (links : List Link) (labels : List ℕ) (forest : IsForest links labels
       by (inl round) = forest.none (round_cycle links (with_link links n i) c round)
       by (inr differ) = differ refl
 
-  module _ (new : List ℕ) (r : IsRelabelled from to labels new) where
-    to_new : (z : ℕ) → IsAtPlace labels z to → IsAtPlace new z to
-    to_new z h = r.kept z to (λ e. other (sym e)) h
-
+  module _ (new : List ℕ) (into : ℕ) (m : AreMerged from to into labels new) where
     kept : AreKept links (with_link links n i)
     kept = kept_left links ((record { node = n; ring = i }) ∷ [])
 
@@ -294,41 +291,52 @@ module _ (links : List Link) (labels : List ℕ) (forest : IsForest links labels
     }
 
     -- from the new link's ring on
-    from_way : (x y : ℕ) → IsAtPlace labels x from → IsAtPlace labels y to → IsJoined (with_link links n i) new to x y
+    from_way : (x y : ℕ) → IsAtPlace labels x from → IsAtPlace labels y to → IsJoined (with_link links n i) new into x y
     from_way x y x_at y_at =
         let w : IsJoined links labels from x i = forest.joined x i from x_at at in
         let avoids : All (AvoidsNode n) w.steps = way_avoids links labels forest n head from to x i linked head_at other w in
-        both_joined links labels forest (with_link links n i) kept new to from to other (λ z. r.replaced z) to_new n x y y_at
+        both_joined links labels forest (with_link links n i) kept new into from to other m.first m.second n x y y_at
         (whole_front links (with_link links n i) kept labels from n x i (link_new links n i) at w avoids)
         (back_of links (with_link links n i) kept labels to n head y linked (forest.joined head y to head_at y_at))
 
     -- and up to it
-    to_way : (x y : ℕ) → IsAtPlace labels x to → IsAtPlace labels y from → IsJoined (with_link links n i) new to x y
+    to_way : (x y : ℕ) → IsAtPlace labels x to → IsAtPlace labels y from → IsJoined (with_link links n i) new into x y
     to_way x y x_at y_at =
         let w : IsJoined links labels from i y = forest.joined i y from at y_at in
         let avoids : All (AvoidsNode n) w.steps = way_avoids links labels forest n head from to i y linked head_at other w in
-        both_joined links labels forest (with_link links n i) kept new to to from (λ e. other (sym e)) to_new (λ z. r.replaced z) n x y y_at
+        both_joined links labels forest (with_link links n i) kept new into to from (λ e. other (sym e)) m.second m.first n x y y_at
         (front_of links (with_link links n i) kept labels to n x head linked head_at (forest.joined x head to x_at head_at))
         (whole_back links (with_link links n i) kept labels from n i y (link_new links n i) w avoids)
 
+    abbrev Was : ℕ → ℕ → Type 0
+    Was x label = WasMerged from to into labels new x label
+
+    -- rings of two old labels of which one has become the new one
+    way_by : (x y label : ℕ) → label ≡ into → IsJoined (with_link links n i) new into x y → IsJoined (with_link links n i) new label x y
+    way_by x y label e w = subst (λ l. IsJoined (with_link links n i) new l x y) (sym e) w
+
     all_joined : (x y label : ℕ) → IsAtPlace new x label → IsAtPlace new y label → IsJoined (with_link links n i) new label x y
-    all_joined x y label h k = by (was_label from to labels new r x label h) (was_label from to labels new r y label k)
+    all_joined x y label h k = by (m.was x label h) (m.was y label k)
       where
-        by : WasLabel from to labels new r x label → WasLabel from to labels new r y label → IsJoined (with_link links n i) new label x y
-        by (inl a) (inl b) =
-            joined_still x y label from (λ z g. subst (λ l. IsAtPlace new z l) (sym a.1) (r.replaced z g)) (forest.joined x y from a.0 b.0)
-        by (inl a) (inr b) = subst (λ l. IsJoined (with_link links n i) new l x y) (sym a.1) (from_way x y a.0 (b.0 ∙ ap Some a.1))
-        by (inr a) (inl b) = subst (λ l. IsJoined (with_link links n i) new l x y) (sym b.1) (to_way x y (a.0 ∙ ap Some b.1) b.0)
-        by (inr a) (inr b) = joined_still x y label label (λ z g. r.kept z label a.1 g) (forest.joined x y label a.0 b.0)
+        by : Was x label → Was y label → IsJoined (with_link links n i) new label x y
+        by (inl a) (inl b) = way_by x y label a.1 (joined_still x y into from m.first (forest.joined x y from a.0 b.0))
+        by (inl a) (inr (inl b)) = way_by x y label a.1 (from_way x y a.0 b.0)
+        by (inl a) (inr (inr b)) = absurd (b.0 a.1)
+        by (inr (inl a)) (inl b) = way_by x y label a.1 (to_way x y a.0 b.0)
+        by (inr (inl a)) (inr (inl b)) = way_by x y label a.1 (joined_still x y into to m.second (forest.joined x y to a.0 b.0))
+        by (inr (inl a)) (inr (inr b)) = absurd (b.0 a.1)
+        by (inr (inr a)) (inl b) = absurd (a.0 b.1)
+        by (inr (inr a)) (inr (inl b)) = absurd (a.0 b.1)
+        by (inr (inr a)) (inr (inr b)) = joined_still x y label label a.2 (forest.joined x y label a.1 b.1)
 
     all_one :
-        (m : Node) (x y : ℕ) → IsLinked (with_link links n i) m x → IsLinked (with_link links n i) m y → slice_get new x ≡ slice_get new y
-    all_one m x y h k = by (link_cases links n i m x h) (link_cases links n i m y k)
+        (v : Node) (x y : ℕ) → IsLinked (with_link links n i) v x → IsLinked (with_link links n i) v y → slice_get new x ≡ slice_get new y
+    all_one v x y h k = by (link_cases links n i v x h) (link_cases links n i v y k)
       where
-        by : IsLinked links m x ⊎ IsNew n i m x → IsLinked links m y ⊎ IsNew n i m y → slice_get new x ≡ slice_get new y
-        by (inl old) (inl too) = same_still from to labels new r x y (forest.one m x y old too)
-        by (inl old) (inr one) = to_new x (label_at m x one.0 old) ∙ sym (r.replaced y (at_new y one.1))
-        by (inr one) (inl old) = r.replaced x (at_new x one.1) ∙ sym (to_new y (label_at m y one.0 old))
+        by : IsLinked links v x ⊎ IsNew n i v x → IsLinked links v y ⊎ IsNew n i v y → slice_get new x ≡ slice_get new y
+        by (inl old) (inl too) = m.same x y (forest.one v x y old too)
+        by (inl old) (inr one) = m.second x (label_at v x one.0 old) ∙ sym (m.first y (at_new y one.1))
+        by (inr one) (inl old) = m.first x (at_new x one.1) ∙ sym (m.second y (label_at v y one.0 old))
         by (inr one) (inr again) = ap (λ z. slice_get new z) (sym one.1 ∙ again.1)
 
     still_forest : IsForest (with_link links n i) new
@@ -338,6 +346,6 @@ module _ (links : List Link) (labels : List ℕ) (forest : IsForest links labels
 pub next_link :
     (links : List Link) (labels : List ℕ) → IsForest links labels → (n : Node) (head i from to : ℕ)
     → IsLinked links n head → IsAtPlace labels i from → IsAtPlace labels head to → from ≢ to
-    → (new : List ℕ) → IsRelabelled from to labels new → IsForest (with_link links n i) new
-next_link links labels forest n head i from to linked at head_at other new r =
-    still_forest links labels forest n head i from to linked at head_at other new r
+    → (new : List ℕ) (into : ℕ) → AreMerged from to into labels new → IsForest (with_link links n i) new
+next_link links labels forest n head i from to linked at head_at other new into m =
+    still_forest links labels forest n head i from to linked at head_at other new into m

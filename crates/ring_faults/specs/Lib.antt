@@ -4,3 +4,4 @@ pub mod Parts
 pub mod Joints
 pub mod Clashes
 pub mod Touches
+pub mod Classes

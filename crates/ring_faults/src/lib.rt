@@ -2,6 +2,7 @@
 #![tactic(auto)]
 
 mod clash;
+mod classes;
 mod cycle;
 mod forest;
 mod link;

@@ -3,3 +3,4 @@ pub mod Counting
 pub mod Turned
 pub mod Rows
 pub mod Triangle
+pub mod Laws

@@ -1,69 +1,87 @@
-use Rattle.std.proofs.Common.{◌≡◌, ℕ, ◌+◌, ◌<◌, length, refl, sym, ◌∙◌, ap, arith}
+use Rattle.std.proofs.Common.{◌≡◌, ℕ, ◌+◌, ◌<◌, List, length, get_or, refl, sym, ◌∙◌, ap, subst, arith}
+use Rattle.std.specs.List.{Contains}
 use Rattle.std.proofs.lemmas.Bool.{false≢true}
+use Rattle.std.proofs.lemmas.Option.{slice_get-get_or}
 use Rattle.point_set.specs.declared.figure.Area.{Area}
-use Rattle.point_set.specs.Validity.{AreasOverlap, AreasShareSegment}
+use Rattle.point_set.specs.Validity.{AreasOverlap, AreasShareSegment, IsAtPlace}
 use Rattle.figure_laws.proofs.Lists.Places.{read_at, some_same}
-use Rattle.geom_valid.proofs.EarlierAreas.{earlier_at, no_earlier, sound_at}
-use Rattle.geom_valid.proofs.RingLists.{NoneBefore, none_on}
+use Rattle.geom_valid.proofs.AreaBoxes.{overlap_boxes_meet}
+use Rattle.geom_valid.proofs.EarlierAreas.{earlier_at, no_earlier}
+use Rattle.geom_valid.proofs.NearPlaces.{IsSoEarlier, none_earlier}
+use Rattle.geom_valid.proofs.RingLists.{none_on}
 use Rattle.geom_valid.proofs.elements.overlaps_earlier.Goals as goal
-use Rattle.geom_valid.proofs.elements.overlaps_earlier.Goals.{else-group-other-via-then-group-other+in_ok-overlaps_area+else-branch, else-group-other-via-else-group-other}
+use Rattle.geom_valid.proofs.elements.overlaps_earlier.Goals.{else-before-place-via-then-before-place+in_ok-overlap_in_group+else-branch, else-before-place-via-else-before-place}
 
-pub overlaps_area-requires-clause-other : goal.overlaps_area-requires-clause-other
-overlaps_area-requires-clause-other c =
-    let areas = c.args.f.now.areas in
-    let other = c.at-other.result.now in
-    let at = read_at areas areas c.loop-before.before other refl (omega (arith, c.loop-before-test.true, c.requires.place)) c.at-other.ensures.item in
-    sound_at c.args.f.now c.requires.shaped c.loop-before.before other at (c.requires.before c.loop-before.before c.loop-before-test.true)
-
-pub overlaps_area-requires-clause-unshared : goal.overlaps_area-requires-clause-unshared
-overlaps_area-requires-clause-unshared c =
-    let areas = c.args.f.now.areas in
+pub overlap_in_group-requires : goal.overlap_in_group-requires
+overlap_in_group-requires c =
+    let f = c.args.f.now in
     let area = c.args.sound.now in
-    let other = c.at-other.result.now in
-    let at = read_at areas areas c.loop-before.before other refl (omega (arith, c.loop-before-test.true, c.requires.place)) c.at-other.ensures.item in
+    let earlier = c.args.earlier.now in
+    let other = c.at-then-before-place.result.now in
+    let before = get_or c.as_slice-other-items.result.now c.loop-other.other-index 0 in
+    let at = c.requires.earlier.each before other
+    (read_at earlier earlier before other refl (omega (arith, c.if-before-place.true, c.requires.earlier.count)) c.at-then-before-place.ensures.item) in
     let own : c.at.result.now ≡ area
-    = some_same (sym (read_at areas areas c.args.place c.at.result.now refl c.requires.place c.at.ensures.item) ∙ c.requires.area) in
-    let same = ap (λ (a : Area). a.group) (sym own) ∙ c.if-group-other.true in
-    λ h. c.requires.unshared (earlier_at c.args.f.now c.args.place c.loop-before.before area other AreasShareSegment c.loop-before-test.true c.requires.area at same h)
+    = some_same (sym (read_at f.areas f.areas c.args.place c.at.result.now refl c.requires.place c.at.ensures.item) ∙ c.requires.area) in
+    record {
+      unshared = λ h. c.requires.unshared (earlier_at f c.args.place before area other AreasShareSegment c.if-before-place.true c.requires.area at
+          (ap (λ (a : Area). a.group) (sym own) ∙ h.0) h.1);
+    }
 
 pub returns-then-branch : goal.returns-then-branch
 returns-then-branch c =
-    let areas = c.args.f.now.areas in
+    let f = c.args.f.now in
     let area = c.args.sound.now in
-    let other = c.at-other.result.now in
-    let at = read_at areas areas c.loop-before.before other refl (omega (arith, c.loop-before-test.true, c.requires.place)) c.at-other.ensures.item in
+    let earlier = c.args.earlier.now in
+    let other = c.at-then-before-place.result.now in
+    let before = get_or c.as_slice-other-items.result.now c.loop-other.other-index 0 in
+    let at = c.requires.earlier.each before other
+    (read_at earlier earlier before other refl (omega (arith, c.if-before-place.true, c.requires.earlier.count)) c.at-then-before-place.ensures.item) in
     let own : c.at.result.now ≡ area
-    = some_same (sym (read_at areas areas c.args.place c.at.result.now refl c.requires.place c.at.ensures.item) ∙ c.requires.area) in
-    let same = ap (λ (a : Area). a.group) (sym own) ∙ c.if-group-other.true in
+    = some_same (sym (read_at f.areas f.areas c.args.place c.at.result.now refl c.requires.place c.at.ensures.item) ∙ c.requires.area) in
+    let both = c.in_ok-overlap_in_group.ensures.overlap.0 c.if-branch.true in
     record {
       overlap = (
-        λ _. earlier_at c.args.f.now c.args.place c.loop-before.before area other AreasOverlap c.loop-before-test.true c.requires.area at same
-            (c.in_ok-overlaps_area.ensures.overlap.0 c.if-branch.true),
+        λ _. earlier_at f c.args.place before area other AreasOverlap c.if-before-place.true c.requires.area at
+            (ap (λ (a : Area). a.group) (sym own) ∙ both.0) both.1,
         λ _. refl,
       );
     }
 
-pub loop-before-preserved : goal.loop-before-preserved
-loop-before-preserved c =
-    let areas = c.args.f.now.areas in
+pub loop-other-preserved : goal.loop-other-preserved
+loop-other-preserved c =
+    let f = c.args.f.now in
+    let area = c.args.sound.now in
     let group = c.at.result.now.group in
-    let other = c.at-other.result.now in
-    let at = read_at areas areas c.loop-before.before other refl (omega (arith, c.loop-before-test.true, c.requires.place)) c.at-other.ensures.item in
-    let not : ¬ ((group ≡ other.group) × AreasOverlap c.args.sound.now other)
-    = elim c.else-group-other.branch [ else-group-other-via-then-group-other+in_ok-overlaps_area+else-branch w ↦ (λ h. false≢true (sym w.if-branch.false ∙ w.in_ok-overlaps_area.ensures.overlap.1 h.1)) | else-group-other-via-else-group-other w ↦ (λ h. w.if-group-other.false h.0) ] in
-    none_on (λ (x : Area). (group ≡ x.group) × AreasOverlap c.args.sound.now x) areas c.loop-before.before other c.loop-before.invariant at not
+    let earlier = c.args.earlier.now in
+    let near = c.as_slice-other-items.result.now in
+    let i = c.loop-other.other-index in
+    let not : ¬ IsSoEarlier (λ (other : Area). (group ≡ other.group) × AreasOverlap area other) f.areas c.args.place (get_or near i 0)
+    = elim c.else-before-place.branch [
+      | else-before-place-via-then-before-place+in_ok-overlap_in_group+else-branch w ↦ (λ so.
+          let at = c.requires.earlier.each (get_or near i 0) w.at-then-before-place.result.now
+          (read_at earlier earlier (get_or near i 0) w.at-then-before-place.result.now refl (omega (arith, w.if-before-place.true, c.requires.earlier.count)) w.at-then-before-place.ensures.item) in
+          let both = subst (λ (other : Area). (group ≡ other.group) × AreasOverlap area other) (some_same (sym so.item_is ∙ at)) so.is_so in
+          false≢true (sym w.if-branch.false ∙ w.in_ok-overlap_in_group.ensures.overlap.1 both))
+      | else-before-place-via-else-before-place w ↦ (λ so. absurd (omega (arith, so.earlier, w.if-before-place.false)))
+    ] in
+    none_on (IsSoEarlier (λ (other : Area). (group ≡ other.group) × AreasOverlap area other) f.areas c.args.place) near i (get_or near i 0)
+    c.loop-other.invariant (slice_get-get_or near i 0 c.loop-other-test.true) not
 
 pub returns : goal.returns
 returns c =
-    let areas = c.args.f.now.areas in
+    let f = c.args.f.now in
     let area = c.args.sound.now in
+    let near = c.as_slice-other-items.result.now in
     let own : c.at.result.now ≡ area
-    = some_same (sym (read_at areas areas c.args.place c.at.result.now refl c.requires.place c.at.ensures.item) ∙ c.requires.area) in
-    let none : NoneBefore (λ (x : Area). (area.group ≡ x.group) × AreasOverlap area x) areas c.loop-before.before
-    = λ k x below is h. c.loop-before.invariant k x below is (ap (λ (a : Area). a.group) own ∙ h.0, h.1) in
-    record {
-      overlap = (
-        λ e. absurd (false≢true e),
-        λ h. absurd (no_earlier c.args.f.now c.args.place area AreasOverlap c.requires.area c.loop-before.before c.loop-before-test.false none h),
-      );
-    }
+    = some_same (sym (read_at f.areas f.areas c.args.place c.at.result.now refl c.requires.place c.at.ensures.item) ∙ c.requires.area) in
+    let group : c.at.result.now.group ≡ area.group = ap (λ (a : Area). a.group) own in
+    let whole : (k : ℕ) → IsSoEarlier (λ (other : Area). (c.at.result.now.group ≡ other.group) × AreasOverlap area other) f.areas c.args.place k → Contains near k
+    = λ k so. subst (λ (ks : List ℕ). Contains ks k) (sym c.as_slice-other-items.ensures.items)
+    (c.in_ok-near.ensures.near k
+    (overlap_boxes_meet f.areas c.args.boxes.now c.requires.boxes c.requires.shaped.areas c.args.place k area so.item c.requires.area so.item_is so.is_so.1)) in
+    let none = none_earlier (λ (other : Area). (c.at.result.now.group ≡ other.group) × AreasOverlap area other) f.areas c.args.place near
+    c.loop-other.other-index c.loop-other-test.false c.loop-other.invariant whole in
+    let none_of_group : (k : ℕ) → ¬ IsSoEarlier (λ (other : Area). (area.group ≡ other.group) × AreasOverlap area other) f.areas c.args.place k
+    = λ k so. none k (record { earlier = so.earlier; item = so.item; item_is = so.item_is; is_so = (group ∙ so.is_so.0, so.is_so.1) }) in
+    record { overlap = (λ e. absurd (false≢true e), λ h. absurd (no_earlier f c.args.place area AreasOverlap c.requires.area none_of_group h)) }

@@ -1,8 +1,10 @@
--- No area of the group so far overlaps the one at the place.
+-- None of the areas near so far is an earlier one of the group that overlaps the one at the place.
 use Rattle.std.proofs.Common.{◌≡◌}
 use Rattle.point_set.specs.Validity.{AreasOverlap}
+use Rattle.geom_valid.proofs.NearPlaces.{IsSoEarlier}
 use Rattle.geom_valid.proofs.RingLists.{NoneBefore}
 use Rattle.geom_valid.proofs.elements.overlaps_earlier.Given as goal
 
-abbrev pub invariant-loop-before : goal.invariant-loop-before
-invariant-loop-before l = NoneBefore (λ other. (l.group ≡ other.group) × AreasOverlap l.sound other) l.f.areas l.before
+abbrev pub invariant-loop-other : goal.invariant-loop-other
+invariant-loop-other l =
+    NoneBefore (IsSoEarlier (λ other. (l.group ≡ other.group) × AreasOverlap l.sound other) l.f.areas l.place) l.other-items l.other-index

@@ -1,19 +1,24 @@
 -- A run says by its status what its steps gave.
-use Rattle.std.proofs.Common.{◌≡◌, Bool, List, ℕ, map, string_bytes, subst}
+use Rattle.std.proofs.Common.{◌≡◌, Bool, List, ℕ, Option, Result, map, string_bytes, subst}
 use Rattle.std.proofs.lemmas.Result.{err_from_is_err_and}
 use Rattle.point_set.specs.declared.figure.Figure.{Figure}
 use Rattle.point_set.specs.declared.rule.Rule.{Rule}
 use Rattle.topo_pred.specs.declared.Query.{Query}
-use Rattle.geosop_run.specs.Text.{IsTextOf, IsTextUnless}
-use Rattle.geosop_run.proofs.Ran.{at_words, at_a, at_b, at_pairs, at_end}
+use Rattle.geosop_io.specs.Sink.{SinkSeen}
+use Rattle.geosop_run.specs.declared.pairs.PairFault.{PairFault}
+use Rattle.geosop_run.specs.Text.{IsOutcome, IsTextUnless, IsToldOf}
+use Rattle.geosop_run.proofs.SampleNumber.{sample_number}
+use Rattle.geosop_run.proofs.Ran.{at_words, at_a, at_b, at_fault, at_ok}
 use Rattle.geosop_run.proofs.program.relate_sources.Goals as goal
 
--- a text is that of equal lists
-same_text : {xs in_a ys in_b : List Figure} (quiet : Bool) (rule : Rule) (query : Query) (text : List ℕ) → xs ≡ in_a → ys ≡ in_b
-    → IsTextUnless quiet (IsTextOf rule query xs ys) text → IsTextUnless quiet (IsTextOf rule query in_a in_b) text
-same_text {xs} {in_a} {ys} {in_b} quiet rule query text e f h =
-    subst (λ (zs : List Figure). IsTextUnless quiet (IsTextOf rule query zs in_b) text) e
-    (subst (λ (zs : List Figure). IsTextUnless quiet (IsTextOf rule query xs zs) text) f h)
+-- what is told of equal lists
+same_told : {xs in_a ys in_b : List Figure} (quiet : Bool) (sample : Option ℕ) (rule : Rule) (query : Query)
+    (result : Result (Unit {0}) PairFault) (old new : SinkSeen) → xs ≡ in_a → ys ≡ in_b
+    → IsOutcome (IsTextUnless quiet (IsToldOf sample rule query xs ys)) result old new
+    → IsOutcome (IsTextUnless quiet (IsToldOf sample rule query in_a in_b)) result old new
+same_told {xs} {in_a} {ys} {in_b} quiet sample rule query result old new e f h =
+    subst (λ (zs : List Figure). IsOutcome (IsTextUnless quiet (IsToldOf sample rule query zs in_b)) result old new) e
+    (subst (λ (zs : List Figure). IsOutcome (IsTextUnless quiet (IsToldOf sample rule query xs zs)) result old new) f h)
 
 pub returns-in_err-config : goal.returns-in_err-config
 returns-in_err-config g c =
@@ -48,33 +53,37 @@ returns-in_err-in_b g c =
           c.in_err-in_b.field-0.0 c.in_err-in_b.ensures.err;
     })
 
-pub returns-in_err-offer_unless_quiet : goal.returns-in_err-offer_unless_quiet
-returns-in_err-offer_unless_quiet g c =
-    let p = err_from_is_err_and c.from_residual-in_err-offer_unless_quiet.result c.from_residual-in_err-offer_unless_quiet.ensures.1 in
-    let lines = c.in_err-offer_unless_quiet.ensures.written in
+pub offer_told-requires-clause-number : goal.offer_told-requires-clause-number
+offer_told-requires-clause-number g c = sample_number (map string_bytes c.args.words.now) c.in_ok-config.config c.in_ok-config.ensures.config
+
+pub returns-in_err-offer_told : goal.returns-in_err-offer_told
+returns-in_err-offer_told g c =
+    let p = err_from_is_err_and c.from_residual-in_err-offer_told.result c.from_residual-in_err-offer_told.ensures.1 in
+    let command = c.in_ok-config.config in
     rw (p.1, p.2)
     (record {
-      ran = at_pairs c.law_a_line_has_one_answer.ensures (map string_bytes c.args.words.now) (g.I.Inputs.seen c.args.inputs.now)
-          (g.O.Sink.seen c.args.out.now) c.requires.a_new c.requires.b_new c.in_ok-config.config c.in_ok-config.ensures.config
+      ran = at_fault c.law_a_line_has_one_answer.ensures (map string_bytes c.args.words.now) (g.I.Inputs.seen c.args.inputs.now)
+          (g.O.Sink.seen c.args.out.now) c.requires.a_new c.requires.b_new command c.in_ok-config.ensures.config
           (g.I.Inputs.seen c.admit_side.new.inputs)
           c.admit_side.ensures.others c.admit_side.ensures.asked c.in_ok-in_a.in_a c.in_ok-in_a.ensures.ok c.in_ok-in_a.ensures.uncounted
           (g.I.Inputs.seen c.admit_side-2.new.inputs) c.admit_side-2.ensures.others c.admit_side-2.ensures.asked
-          c.in_ok-in_b.in_b c.in_ok-in_b.ensures.ok c.in_ok-in_b.ensures.uncounted (g.O.Sink.seen c.offer_unless_quiet.new.out) lines.text
-          (same_text c.in_ok-config.config.quiet c.in_ok-config.config.rule c.in_ok-config.config.query lines.text
-          c.as_slice.ensures.items c.as_slice-2.ensures.items lines.is_text)
-          c.in_err-offer_unless_quiet.field-0.0 lines.written;
+          c.in_ok-in_b.in_b c.in_ok-in_b.ensures.ok c.in_ok-in_b.ensures.uncounted (g.O.Sink.seen c.offer_told.new.out)
+          c.offer_told.ensures.quiet c.in_err-offer_told.field-0.0
+          (same_told command.quiet command.sample command.rule command.query _ _ _ c.as_slice.ensures.items c.as_slice-2.ensures.items
+          c.in_err-offer_told.ensures.written);
     })
 
 pub returns : goal.returns
 returns g c =
-    let lines = c.in_ok-offer_unless_quiet.ensures.written in
+    let command = c.in_ok-config.config in
     record {
-      ran = at_end c.law_a_line_has_one_answer.ensures (map string_bytes c.args.words.now) (g.I.Inputs.seen c.args.inputs.now)
-          (g.O.Sink.seen c.args.out.now) c.requires.a_new c.requires.b_new c.in_ok-config.config c.in_ok-config.ensures.config
+      ran = at_ok c.law_a_line_has_one_answer.ensures (map string_bytes c.args.words.now) (g.I.Inputs.seen c.args.inputs.now)
+          (g.O.Sink.seen c.args.out.now) c.requires.a_new c.requires.b_new command c.in_ok-config.ensures.config
           (g.I.Inputs.seen c.admit_side.new.inputs)
           c.admit_side.ensures.others c.admit_side.ensures.asked c.in_ok-in_a.in_a c.in_ok-in_a.ensures.ok c.in_ok-in_a.ensures.uncounted
           (g.I.Inputs.seen c.admit_side-2.new.inputs) c.admit_side-2.ensures.others c.admit_side-2.ensures.asked
-          c.in_ok-in_b.in_b c.in_ok-in_b.ensures.ok c.in_ok-in_b.ensures.uncounted (g.O.Sink.seen c.offer_unless_quiet.new.out) lines.text
-          (same_text c.in_ok-config.config.quiet c.in_ok-config.config.rule c.in_ok-config.config.query lines.text
-          c.as_slice.ensures.items c.as_slice-2.ensures.items lines.is_text) lines.written;
+          c.in_ok-in_b.in_b c.in_ok-in_b.ensures.ok c.in_ok-in_b.ensures.uncounted (g.O.Sink.seen c.offer_told.new.out)
+          c.offer_told.ensures.quiet c.in_ok-offer_told.field-0
+          (same_told command.quiet command.sample command.rule command.query _ _ _ c.as_slice.ensures.items c.as_slice-2.ensures.items
+          c.in_ok-offer_told.ensures.written);
     }

@@ -5,6 +5,6 @@ use Rattle.ring_faults.proofs.Forests.{IsForest}
 
 abbrev pub invariant-loop-i : goal.invariant-loop-i
 invariant-loop-i l = record {
-  forest : IsForest (take l.i l.links) l.labels.items;
-  count : length l.labels.items ≡ l.last + 1;
+  forest : IsForest (take l.i l.links) l.classes;
+  count : length l.classes ≡ l.last + 1;
 }
