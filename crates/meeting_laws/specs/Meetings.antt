@@ -1,4 +1,4 @@
--- The first meeting of a segment with edges (of the validity road).
+-- The first meeting of a segment with edges.
 use Rattle.std.specs.Prelude.{◌≡◌, ◌⊎◌, true, false, List, [], ◌∷◌}
 use Rattle.plane_laws.specs.Plane.{Point, IsSamePoint, IsOnSegment}
 use Rattle.plane_exact.specs.declared.point.Seg.{Seg}

@@ -1,5 +1,6 @@
 -- Closed boxes of the plane.
 use Rattle.std.specs.Prelude.{◌*ℤ◌, ◌≤ℤ◌}
+use Rattle.std.specs.Int.{int_max, int_min}
 use Rattle.plane_laws.specs.Plane.{Point}
 use Rattle.plane_exact.specs.declared.point.Pt.{Pt}
 use Rattle.plane_exact.specs.declared.window.Window.{Window}
@@ -35,3 +36,13 @@ low_corner box = record { x = box.low_x; y = box.low_y }
 
 abbrev pub high_corner : Window → Pt
 high_corner box = record { x = box.high_x; y = box.high_y }
+
+-- The least box that holds both.
+abbrev pub join_boxes : Window → Window → Window
+join_boxes box other =
+    record {
+      low_x = int_min box.low_x other.low_x;
+      low_y = int_min box.low_y other.low_y;
+      high_x = int_max box.high_x other.high_x;
+      high_y = int_max box.high_y other.high_y;
+    }

@@ -22,7 +22,7 @@ impl Window {
     ghost use Rattle.plane_exact.specs.Places.{point_of};
     ghost use Rattle.plane_exact.specs.NodePoints.{point_at};
     ghost use Rattle.plane_laws.specs.Plane.{IsOnSegment, IsSamePoint};
-    ghost use Rattle.plane_exact.specs.Windows.{HasCommonPoint, IsLeastWindow};
+    ghost use Rattle.plane_exact.specs.Windows.{HasCommonPoint, IsLeastWindow, join_boxes};
 
     /// The least whole box that holds a segment.
     pub fn of(s: Seg) -> Window
@@ -60,5 +60,17 @@ impl Window {
     {
         self.low_x.max(other.low_x) <= self.high_x.min(other.high_x)
             && self.low_y.max(other.low_y) <= self.high_y.min(other.high_y)
+    }
+
+    /// The least box that holds both boxes.
+    pub fn join(&self, other: &Window) -> Window
+        ensures join { result ≡ join_boxes self.now other.now }
+    {
+        Window {
+            low_x: self.low_x.min(other.low_x),
+            low_y: self.low_y.min(other.low_y),
+            high_x: self.high_x.max(other.high_x),
+            high_y: self.high_y.max(other.high_y),
+        }
     }
 }

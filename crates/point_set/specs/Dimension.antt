@@ -31,3 +31,10 @@ IsDimension Set Two = HoldsTriangle Set
 IsDimension Set One = (¬ HoldsTriangle Set) × HoldsSegment Set
 IsDimension Set Zero = (¬ HoldsTriangle Set) × (¬ HoldsSegment Set) × HoldsPoint Set
 IsDimension Set Empty = ¬ HoldsPoint Set
+
+-- The set holds what a dimension says: a triangle, a segment, a point, or nothing at all.
+abbrev pub ShowsDimension : (Point → Type 0) → Dim → Type 0
+ShowsDimension Set Two = HoldsTriangle Set
+ShowsDimension Set One = HoldsSegment Set
+ShowsDimension Set Zero = HoldsPoint Set
+ShowsDimension Set Empty = Unit {0}

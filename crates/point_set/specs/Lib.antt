@@ -16,3 +16,4 @@ pub mod Cover
 pub mod Nodes
 pub mod Samples
 pub mod Visible
+pub mod Extents

@@ -56,7 +56,7 @@ pub record IsVisibleOn (a b : Figure) (rule : Rule) (p : Point) : Type 0 where
   pub p_on : IsOnEdge edge p
   pub seen : IsSeenFrom a b rule v p
 
--- From each point on an edge that is no node, a node is seen along an edge.
+-- From each point on an edge that is no node, a node is seen along one of the edges that hold the point.
 abbrev pub LawVisibleOn : Figure → Figure → Rule → Type 0
 LawVisibleOn a b rule = (p : Point) → is_on_edges p (segs_of_both a b) ≡ true → ¬ IsNode a b p → IsVisibleOn a b rule p
 

@@ -5,6 +5,7 @@
 mod dim_loc;
 mod dimension;
 mod edge;
+mod extent;
 mod figure;
 mod rule;
 mod shape;
@@ -15,6 +16,7 @@ mod valid;
 
 pub use dim_loc::DimLoc;
 pub use edge::{Edge, EdgeId, EdgeRows, Hand, Owner};
+pub use extent::Extent;
 pub use figure::{Area, Areas, Figure, FigureList, Paths};
 pub use rule::Rule;
 pub use shape::well_shaped;

@@ -3,9 +3,11 @@ ghost use Rattle.plane_exact.specs.NodePoints.{point_at};
 ghost use Rattle.point_set.specs.declared.figure.Figure.{Figure};
 ghost use Rattle.point_set.specs.Location.{IsKind};
 ghost use Rattle.point_set.specs.Edges.{edges_of_figure, ArePlacesIn, IsEdgeAt, HasHand};
+ghost use Rattle.point_set.specs.Extents.{IsExtent};
 
 use crate::dim_loc::DimLoc;
 use crate::edge::{Edge, EdgeId};
+use crate::extent::Extent;
 use crate::rule::Rule;
 use crate::valid::Valid;
 use plane_exact::{NoMemory, Node, PlaceList, Window};
@@ -46,4 +48,9 @@ pub trait Target {
         ensures places { OnOk result (ArePlacesIn w (edges_of_figure (figure self.new)) out.new) }
         ensures figure { figure self.new ≡ figure self.old }
         ensures looks { looks self.new ≡ looks self.old };
+
+    /// The envelopes of the figure's rings, of its lines with two different positions, of its points and other lines, and of
+    /// the line ends that are boundary under the rule. Takes no memory.
+    fn extent(&self, rule: Rule) -> Extent
+        ensures extent { IsExtent (figure self.now) rule result };
 }

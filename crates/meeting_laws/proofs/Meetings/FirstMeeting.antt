@@ -1,4 +1,4 @@
--- The first meeting of a segment with some edges, from that with one edge (the trial of the validity road, as it stands there).
+-- The first meeting of a segment with some edges, from that with one edge.
 use Rattle.std.proofs.Common.{◌≡◌, ◌⊎◌, inl, inr, Bool, true, false, ◌||◌, List, [], ◌∷◌, ap, refl, sym, ◌∙◌}
 use Rattle.std.proofs.lemmas.Bool.{true≢false, or_left, or_right, or_parts, or_from}
 use Rattle.std.specs.Ordering.{ordering_reverse}

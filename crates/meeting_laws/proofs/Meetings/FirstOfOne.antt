@@ -1,4 +1,4 @@
--- The first meeting of a segment with one edge (the trial of the validity road, as it stands there).
+-- The first meeting of a segment with one edge.
 use Rattle.std.proofs.Common.{◌≡◌, ◌⊎◌, inl, inr, ℤ, pos, ◌-ℤ◌, ◌*ℤ◌, neg_ℤ, ◌<ℤ◌, ◌≤ℤ◌, Bool, true, false, [], ◌∷◌, ap, refl, sym}
 use Rattle.std.proofs.Common.{◌∙◌, subst, arith}
 use Rattle.whole_algebra.proofs.Laws.{linear}

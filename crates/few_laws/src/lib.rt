@@ -1,0 +1,3 @@
+//! The law of the few nodes: crossings within one figure that has no areas may be left out.
+//! Lemmas stand in proofs/, by theme; functions do nothing, and their contracts are laws.
+#![tactic(auto)]
