@@ -96,3 +96,23 @@ fn a_still_line_and_an_empty_figure(rt: HostRuntime) -> Result<(), Fail> {
     assert_matrix(&rt, alloc, still, point, Rule::Mod2, b"0FFFFFFF2")?;
     assert_matrix(&rt, alloc, NOTHING, point, Rule::Mod2, b"FFFFFF0F2")
 }
+
+/// The line turns back along the ring at (4, 0) and at (6, 0), and leaves the piece between the two free.
+#[test]
+fn a_line_that_turns_back_along_a_ring(rt: HostRuntime) -> Result<(), Fail> {
+    let alloc = rt.alloc();
+    let ring = "POLYGON ((0 0, 10 0, 10 10, 0 10, 0 0))";
+    let line = "LINESTRING (0 0, 4 0, 0 0, 0 10, 10 10, 10 0, 6 0, 10 0)";
+    assert_matrix(&rt, alloc, ring, line, Rule::Mod2, b"FF2101FF2")
+}
+
+/// The square between the four bars is free of them, and only their crossings show it.
+#[test]
+fn bars_round_a_square(rt: HostRuntime) -> Result<(), Fail> {
+    let alloc = rt.alloc();
+    let bars =
+        "GEOMETRYCOLLECTION (POLYGON ((0 -2, 2 -2, 2 8, 0 8, 0 -2)), POLYGON ((4 -2, 6 -2, 6 8, 4 8, 4 -2)), \
+        POLYGON ((-2 0, 8 0, 8 2, -2 2, -2 0)), POLYGON ((-2 4, 8 4, 8 6, -2 6, -2 4)))";
+    let square = "POLYGON ((1 1, 5 1, 5 5, 1 5, 1 1))";
+    assert_matrix(&rt, alloc, bars, square, Rule::Mod2, b"2121F12F2")
+}

@@ -5,9 +5,9 @@ ghost use Rattle.point_set.specs.Shape.{IsWellShaped};
 use geom_valid::admit;
 use plane_exact::{Node, Pt, in_limit};
 use point_set::{Figure, Rule, Valid};
-use std::alloc::Global;
+use std::alloc::{AllocError, Global};
 use std::process::Abort;
-use std::test::Fail;
+use std::test::*;
 use wkt_text::{Scale, read_next};
 
 pub(crate) const NOTHING: &str = "POINT EMPTY";
@@ -54,4 +54,22 @@ pub(crate) fn node_at(rt: &impl Abort, x: i64, y: i64) -> Node {
     let position = Pt { x, y };
     assert!(rt; in_limit(position), "({x}, {y})");
     Node::at_point(position)
+}
+
+/// How many teeth the comb has.
+const TEETH: u8 = 50;
+
+/// The text of a comb: teeth of width 1 on a base, with gaps of width 1 between them down to the height 1.
+pub(crate) fn comb(alloc: Global) -> Result<String, AllocError> {
+    let height = 2 * i64::from(TEETH) + 1;
+    let mut text = format!(in alloc; "POLYGON ((0 0, {} 0", 2 * i64::from(TEETH) - 1)?;
+    for tooth in (0..TEETH).rev() {
+        let left = 2 * i64::from(tooth);
+        write!(text, ", {} {height}, {left} {height}", left + 1)?;
+        if tooth > 0 {
+            write!(text, ", {left} 1, {} 1", left - 1)?;
+        }
+    }
+    text.push_str(", 0 0))")?;
+    Ok(text)
 }

@@ -1,11 +1,10 @@
 //! An index over the heights of an area's edges: where positions lie by it, and which area it is of.
-use crate::figures::{figure_of, node_at};
+use crate::figures::{comb, figure_of, node_at};
 use area_locator::AreaIndex;
 use im_matrix::Loc;
 use plane_exact::Count;
-use std::alloc::{AllocError, Global};
 use std::process::Abort;
-use std::test::*;
+use std::test::Fail;
 
 /// A square with a hole, and the same square without it.
 const SQUARES: &str =
@@ -41,24 +40,6 @@ fn the_areas_of_indexes(rt: HostRuntime) -> Result<(), Fail> {
     assert_eq!(rt; plain.differs_at(&squares, 0), Some(4));
     assert_eq!(rt; plain.differs_at(&squares, 1), None);
     Ok(())
-}
-
-/// How many teeth the comb has.
-const TEETH: u8 = 50;
-
-/// The text of a comb: teeth of width 1 on a base, with gaps of width 1 between them down to the height 1.
-fn comb(alloc: Global) -> Result<String, AllocError> {
-    let height = 2 * i64::from(TEETH) + 1;
-    let mut text = format!(in alloc; "POLYGON ((0 0, {} 0", 2 * i64::from(TEETH) - 1)?;
-    for tooth in (0..TEETH).rev() {
-        let left = 2 * i64::from(tooth);
-        write!(text, ", {} {height}, {left} {height}", left + 1)?;
-        if tooth > 0 {
-            write!(text, ", {left} 1, {} 1", left - 1)?;
-        }
-    }
-    text.push_str(", 0 0))")?;
-    Ok(text)
 }
 
 /// Of the comb's 200 edges 100 have the height 50, and eight binary digits are enough for 200, so that at most

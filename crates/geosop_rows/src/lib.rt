@@ -5,6 +5,8 @@
 #[cfg(test)]
 mod answer_rows;
 #[cfg(test)]
+mod counting;
+#[cfg(test)]
 mod edge_rows;
 #[cfg(test)]
 mod figures;
@@ -14,5 +16,7 @@ mod index_rows;
 mod label_rows;
 #[cfg(test)]
 mod location_rows;
+#[cfg(test)]
+mod look_rows;
 #[cfg(test)]
 mod tests;

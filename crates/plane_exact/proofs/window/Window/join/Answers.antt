@@ -8,7 +8,7 @@ box_of a b c d = record { low_x = a; low_y = b; high_x = c; high_y = d }
 
 same_box : {a b c d e f g h : ℤ} → a ≡ e → b ≡ f → c ≡ g → d ≡ h → box_of a b c d ≡ box_of e f g h
 same_box {a} {b} {c} {d} {e} {f} {g} {h} p q r s =
-  ap (λ x. box_of x b c d) p ∙ (ap (λ x. box_of e x c d) q ∙ (ap (λ x. box_of e f x d) r ∙ ap (λ x. box_of e f g x) s))
+    ap (λ x. box_of x b c d) p ∙ (ap (λ x. box_of e x c d) q ∙ (ap (λ x. box_of e f x d) r ∙ ap (λ x. box_of e f g x) s))
 
 pub returns : goal.returns
 returns c = record { join = same_box (omega (arith, ints, clamps)) (omega (arith, ints, clamps)) (omega (arith, ints, clamps)) (omega (arith, ints, clamps)) }
