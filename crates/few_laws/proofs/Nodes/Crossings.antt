@@ -31,11 +31,11 @@ split_at IsSo (y ∷ xs) ys (suc i) x is h = by_part (split_at IsSo xs ys i x is
     by_part (inr k) = inr k
 
 -- some item of both lists is one of the first or of the second
-pub some_split : {X : Type 0} (IsSo : X → Type 0) (xs ys : List X) → SomeItem IsSo (xs ++ ys) → SomeItem IsSo xs ⊎ SomeItem IsSo ys
+some_split : {X : Type 0} (IsSo : X → Type 0) (xs ys : List X) → SomeItem IsSo (xs ++ ys) → SomeItem IsSo xs ⊎ SomeItem IsSo ys
 some_split IsSo xs ys h = split_at IsSo xs ys h.place h.item h.item_is h.is_so
 
 -- so it is one of both in the other order
-pub some_turned : {X : Type 0} (IsSo : X → Type 0) (xs ys : List X) → SomeItem IsSo (xs ++ ys) → SomeItem IsSo (ys ++ xs)
+some_turned : {X : Type 0} (IsSo : X → Type 0) (xs ys : List X) → SomeItem IsSo (xs ++ ys) → SomeItem IsSo (ys ++ xs)
 some_turned IsSo xs ys h = by_part (some_split IsSo xs ys h)
   where
     by_part : SomeItem IsSo xs ⊎ SomeItem IsSo ys → SomeItem IsSo (ys ++ xs)
@@ -43,9 +43,13 @@ some_turned IsSo xs ys h = by_part (some_split IsSo xs ys h)
     by_part (inr k) = some_left IsSo ys xs k
 
 -- ---- crossings
+-- v is the only common point of e and some edge of a list
+abbrev pub HasPartner : Point → List Seg → Seg → Type 0
+HasPartner v others e = SomeItem (λ f. IsOnlyCommonPoint e f v) others
+
 -- two edges whose only common point is v, as items of two lists
 abbrev pub HasCrossing : Point → List Seg → List Seg → Type 0
-HasCrossing v edges others = SomeItem (λ e. SomeItem (λ f. IsOnlyCommonPoint e f v) others) edges
+HasCrossing v edges others = SomeItem (HasPartner v others) edges
 
 -- they cross
 pub crossing_of : {edges others : List Seg} {v : Point} → HasCrossing v edges others → IsCrossing edges others v
@@ -60,7 +64,7 @@ crossing_of s = record {
 }
 
 -- and back
-pub items_of : {edges others : List Seg} {v : Point} → IsCrossing edges others v → HasCrossing v edges others
+items_of : {edges others : List Seg} {v : Point} → IsCrossing edges others v → HasCrossing v edges others
 items_of c = record {
   place = c.i;
   item = c.e;
@@ -68,13 +72,49 @@ items_of c = record {
   is_so = record { place = c.j; item = c.f; item_is = c.f_is; is_so = c.meet };
 }
 
+-- a crossing, with the second edge first
+pub crossing_turned : {edges others : List Seg} {v : Point} → IsCrossing edges others v → IsCrossing others edges v
+crossing_turned c = record {
+  i = c.j;
+  j = c.i;
+  e = c.f;
+  f = c.e;
+  e_is = c.f_is;
+  f_is = c.e_is;
+  meet = record { on_e = c.meet.on_f; on_f = c.meet.on_e; only = λ p on_f on_e. c.meet.only p on_e on_f };
+}
+
+-- two edges of two lists cross: an edge of the one and an edge of the other, or two of the first, or two of the second
+pub crossing_split :
+    (xs ys : List Seg) (v : Point) → IsCrossing (xs ++ ys) (xs ++ ys) v
+    → IsCrossing xs ys v ⊎ (IsCrossing xs xs v ⊎ IsCrossing ys ys v)
+crossing_split xs ys v c = by_first (some_split (HasPartner v (xs ++ ys)) xs ys (items_of c))
+  where
+    Parted : Type 0
+    Parted = IsCrossing xs ys v ⊎ (IsCrossing xs xs v ⊎ IsCrossing ys ys v)
+
+    joined : (edges others : List Seg) (s : HasCrossing v edges (xs ++ ys)) → HasPartner v others s.item → IsCrossing edges others v
+    joined edges others s other = crossing_of (record { place = s.place; item = s.item; item_is = s.item_is; is_so = other })
+
+    of_first : (s : HasCrossing v xs (xs ++ ys)) → HasPartner v xs s.item ⊎ HasPartner v ys s.item → Parted
+    of_first s (inl other) = inr (inl (joined xs xs s other))
+    of_first s (inr other) = inl (joined xs ys s other)
+
+    of_second : (s : HasCrossing v ys (xs ++ ys)) → HasPartner v xs s.item ⊎ HasPartner v ys s.item → Parted
+    of_second s (inl other) = inl (crossing_turned (joined ys xs s other))
+    of_second s (inr other) = inr (inr (joined ys ys s other))
+
+    by_first : HasCrossing v xs (xs ++ ys) ⊎ HasCrossing v ys (xs ++ ys) → Parted
+    by_first (inl s) = of_first s (some_split (λ f. IsOnlyCommonPoint s.item f v) xs ys s.is_so)
+    by_first (inr s) = of_second s (some_split (λ f. IsOnlyCommonPoint s.item f v) xs ys s.is_so)
+
 -- a crossing of edges that are all among others is a crossing of those
 wider :
     {edges others all : List Seg} {v : Point} → ((IsSo : Seg → Type 0) → SomeItem IsSo edges → SomeItem IsSo all)
     → ((IsSo : Seg → Type 0) → SomeItem IsSo others → SomeItem IsSo all) → IsCrossing edges others v → IsCrossing all all v
 wider {edges} {others} {all} {v} first second c =
     let s = items_of c in
-    crossing_of (first (λ e. SomeItem (λ f. IsOnlyCommonPoint e f v) all) (record {
+    crossing_of (first (HasPartner v all) (record {
       place = s.place;
       item = s.item;
       item_is = s.item_is;

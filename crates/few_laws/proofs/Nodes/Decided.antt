@@ -90,7 +90,9 @@ module _ (a b : Figure) (p : Point) (nowhere : is_at_some p (positions_of_both a
       (own_decided a (crossing_decided p (segs_of a) (segs_of a) first_elsewhere first_elsewhere))
       (own_decided b (crossing_decided p (segs_of b) (segs_of b) second_elsewhere second_elsewhere))
     where
-      by_parts : Decided (IsCrossing (segs_of a) (segs_of b) p) → Decided (OwnCrossing a) → Decided (OwnCrossing b) → Decided (IsFewNode a b p)
+      by_parts :
+          Decided (IsCrossing (segs_of a) (segs_of b) p) → Decided (OwnCrossing a) → Decided (OwnCrossing b)
+          → Decided (IsFewNode a b p)
       by_parts (inl c) own other = inl (between c)
       by_parts (inr none) (inl h) other = inl (of_a h.0 h.1)
       by_parts (inr none) (inr none_a) (inl h) = inl (of_b h.0 h.1)
