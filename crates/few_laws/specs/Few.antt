@@ -1,5 +1,5 @@
 -- The few nodes show what all nodes show.
-use Rattle.std.specs.Prelude.{◌≤◌, ◌⊎◌, List}
+use Rattle.std.specs.Prelude.{◌≤◌, ◌⊎◌}
 use Rattle.im_matrix.specs.Cells.{rank}
 use Rattle.im_matrix.specs.declared.Cell.{Cell}
 use Rattle.im_matrix.specs.declared.Dim.{Dim}

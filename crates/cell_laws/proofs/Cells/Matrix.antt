@@ -65,7 +65,7 @@ greatest_of Is decide = by_two (decide Two) (decide One) (decide Zero)
 
 -- ---- two matrices of samples are one
 -- dimensions of one rank are one
-same_rank : (d e : Dim) → rank d ≤ rank e → rank e ≤ rank d → d ≡ e
+pub same_rank : (d e : Dim) → rank d ≤ rank e → rank e ≤ rank d → d ≡ e
 same_rank d e h k = grind arith
 
 -- a greatest dimension is no greater than another

@@ -36,7 +36,7 @@ germ_same :
 germ_same a b rule v w d c same g = record { from = g.from; holds = λ n far p away. g.holds n far p (away_same (same_sym same) away) }
 
 -- an edge that runs from v along d holds the points v + d/n
-run_along :
+pub run_along :
     (v : Point) (d : Direction) (f : Seg) → is_on_edge v f ≡ true → IsInCone v d d (point_of f.a) ⊎ IsInCone v d d (point_of f.b)
     → HoldsAlong (λ p. is_on_edge p f ≡ true) v d
 run_along v d f on (inl c) =

@@ -101,7 +101,7 @@ last_none m p [] h = (or_parts (is_at m p) false h).0
 last_none m p (q ∷ others) h = last_none m q others (or_parts (is_at m p) (is_at_some m (q ∷ others)) h).1
 
 -- none of the counted positions is here
-count_none : (m : Point) (positions : List Pt) → is_at_some m positions ≡ false → count_at m positions ≡ 0
+pub count_none : (m : Point) (positions : List Pt) → is_at_some m positions ≡ false → count_at m positions ≡ 0
 count_none m [] h = refl
 count_none m (p ∷ positions) h =
     let tests = or_parts (is_at m p) (is_at_some m positions) h in
@@ -119,7 +119,7 @@ ends_none m (p ∷ others) h = by_still (is_still (p ∷ others))
         (or_from (is_at m (last_after p others)) false (last_none m p others h) refl)
 
 -- the ends of all lines
-line_ends_none :
+pub line_ends_none :
     (m : Point) (lines : List (List Pt)) → is_at_some m (positions_of_ways lines) ≡ false → is_at_some m (ends_of_lines lines) ≡ false
 line_ends_none m [] h = refl
 line_ends_none m (line ∷ lines) h =

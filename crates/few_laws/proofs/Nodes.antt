@@ -1,0 +1,3 @@
+-- The few nodes are nodes, are decided, and stand in a finite list.
+pub mod Crossings
+pub mod Decided
