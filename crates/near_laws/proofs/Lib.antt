@@ -1,3 +1,4 @@
 pub mod Boxes
 pub mod Envelopes
 pub mod Far
+pub mod Beyond
