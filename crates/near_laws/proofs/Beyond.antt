@@ -4,3 +4,8 @@ pub mod Kept
 pub mod Ways
 pub mod Lines
 pub mod Inside
+pub mod Rays
+pub mod Boundary
+pub mod Corners
+pub mod Areas
+pub mod Shown

@@ -2,3 +2,4 @@ pub mod Boxes
 pub mod Envelopes
 pub mod Far
 pub mod Beyond
+pub mod Decide

@@ -50,7 +50,7 @@ module _ (a b : Figure) (valid : AreValid a b) (rule : Rule) (x : Extent) (is : 
         by (inr (inr h)) = absurd (out h)
 
     -- the same along a direction
-    germ_out :
+    pub germ_out :
         (q : Point) → ¬ IsInBox w q → (d : Direction) (part : Loc) → part ≢ Exterior → HoldsAlong (λ p. IsLocation a rule p part) q d
         → IsPairGerm a b rule q d (cell part Exterior)
     germ_out q out d part some along =

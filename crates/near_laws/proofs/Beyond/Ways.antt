@@ -40,6 +40,16 @@ end_way e moves v = by (same_or_not v (point_of e.a))
         let apart : ¬ IsSamePoint v (point_of e.b) = λ other. moves (same_trans (same_sym same) other) in
         record { forward = true; d = way_to v (point_of e.b) apart; toward = way_to_is v (point_of e.b) apart }
 
+-- it leads to one of the ends
+pub leads_to_end : (e : Seg) (v : Point) (way : HasEndWay e v) → IsInCone v way.d way.d (point_of e.a) ⊎ IsInCone v way.d way.d (point_of e.b)
+leads_to_end e v way = by way.forward way.toward
+  where
+    by :
+        (forward : Bool) → IsInCone v way.d way.d (point_of (far_end forward e))
+        → IsInCone v way.d way.d (point_of e.a) ⊎ IsInCone v way.d way.d (point_of e.b)
+    by false c = inl c
+    by true c = inr c
+
 -- along it, from a point of the edge, points are on the edge
 pub along_edge_way : (e : Seg) (v : Point) → is_on_edge v e ≡ true → (way : HasEndWay e v) → HoldsAlong (λ p. is_on_edge p e ≡ true) v way.d
 along_edge_way e v on way =
