@@ -1,5 +1,5 @@
 -- At each point the rays along which edges of a figure's areas run; each direction is along such an edge or lies in a sector between them.
-use Rattle.std.proofs.Common.{◌≡◌, ◌⊎◌, inl, inr, ℕ, ◌+◌, ◌≤◌, Bool, true, false, List, [], ◌++◌, ap, refl, sym, ◌∙◌, arith}
+use Rattle.std.proofs.Common.{◌≡◌, ◌⊎◌, inl, inr, ℕ, Bool, true, false, List, [], ap, refl, sym, ◌∙◌, arith}
 use Rattle.std.proofs.lemmas.Bool.{true≢false}
 use Rattle.std.proofs.lemmas.List.Elements.{All-nil}
 use Rattle.plane_laws.specs.Plane.{Point, IsOnSegment}
@@ -20,7 +20,6 @@ use Rattle.point_set.specs.Sectors.{AreRaysAt}
 use Rattle.point_set.specs.Shape.{IsLineShaped, IsWellShaped}
 use Rattle.point_set.specs.Validity.{IsAtPlace, IsValid, SomeArea, SomeEarlier, too_few_points, ring_cross, rings_share_edge, hole_outside}
 use Rattle.point_set.specs.Validity.{holes_overlap, disconnected, elements_share_edge, elements_overlap}
-use Rattle.point_set.specs.Visible.{AreValid}
 use Rattle.plane_laws.proofs.Segments.Mixes.{start_on_segment, end_on_segment}
 use Rattle.figure_laws.proofs.Edges.Lists.{none_joined, segs_are}
 use Rattle.figure_laws.proofs.Edges.Owners.{area_edge}

@@ -1,5 +1,5 @@
 -- What the envelopes tell of a cell is there.
-use Rattle.std.proofs.Common.{◌≡◌, ◌⊎◌, inl, inr, ℕ, ◌+◌, Bool, true, false, List, refl, arith}
+use Rattle.std.proofs.Common.{◌≡◌, ◌⊎◌, inl, inr, ◌+◌, Bool, true, false, List, refl, arith}
 use Rattle.std.proofs.Common.{◌<◌, [], ◌∷◌}
 use Rattle.std.specs.Prelude.{Option}
 use Rattle.plane_laws.specs.Plane.{Point}

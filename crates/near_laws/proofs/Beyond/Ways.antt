@@ -1,6 +1,6 @@
 -- From each point of an edge with two different ends there is a way along it to one of them; so from each point of a line there is a way
 -- along the line.
-use Rattle.std.proofs.Common.{◌≡◌, ◌⊎◌, inl, inr, ℕ, Bool, true, false}
+use Rattle.std.proofs.Common.{◌≡◌, ◌⊎◌, inl, inr, Bool, true, false}
 use Rattle.plane_laws.specs.Plane.{Point, IsSamePoint}
 use Rattle.plane_laws.specs.Directions.{Direction}
 use Rattle.plane_laws.specs.Along.{HoldsAlong, IsInCone}

@@ -1,27 +1,24 @@
 -- The near nodes and the envelopes decide the cells, where the few nodes show what all nodes show.
-use Rattle.std.proofs.Common.{◌≡◌, ◌≢◌, ◌≤◌, ◌⊎◌, inl, inr, ℕ, refl, sym, subst, arith}
+use Rattle.std.proofs.Common.{◌≡◌, ◌≤◌, ◌⊎◌, inl, inr, ℕ, refl, sym, subst, arith}
 use Rattle.std.specs.Prelude.{Option}
 use Rattle.im_matrix.specs.Cells.{rank, cell, dimension_at, start_dimension}
-use Rattle.im_matrix.specs.declared.Cell.{Cell}
 use Rattle.im_matrix.specs.declared.Dim.{Dim}
 use Rattle.im_matrix.specs.declared.Dim.TheVariants.{Empty, Zero, One, Two}
 use Rattle.im_matrix.specs.declared.Loc.{Loc}
 use Rattle.im_matrix.specs.declared.Loc.TheVariants.{Interior, Boundary, Exterior}
-use Rattle.im_matrix.specs.declared.Matrix.{Matrix}
 use Rattle.plane_laws.specs.Plane.{Point}
 use Rattle.plane_exact.specs.declared.window.Window.{Window}
 use Rattle.point_set.specs.declared.extent.Extent.{Extent}
 use Rattle.point_set.specs.declared.figure.Figure.{Figure}
 use Rattle.point_set.specs.declared.rule.Rule.{Rule}
-use Rattle.point_set.specs.Dimension.{HoldsTriangle, HoldsSegment, HoldsPoint, IsDimension, ShowsDimension}
-use Rattle.point_set.specs.Extents.{IsExtent}
+use Rattle.point_set.specs.Dimension.{IsDimension, ShowsDimension}
 use Rattle.point_set.specs.Nodes.{IsNode, IsFewNode}
 use Rattle.point_set.specs.Relation.{IsInCell}
-use Rattle.point_set.specs.Samples.{IsSample, IsGreatest, IsMatrixOfSamples}
+use Rattle.point_set.specs.Samples.{IsSample, IsGreatest}
 use Rattle.point_set.specs.Visible.{AreValid}
 use Rattle.cell_laws.specs.Decided.{AreDecidedBySamples}
 use Rattle.few_laws.specs.Few.{LawFew}
-use Rattle.near_laws.specs.Near.{HoldsCommonPart, IsNearWindow, IsNearNode, LawNearDecide, beyond_cell, beyond_parts}
+use Rattle.near_laws.specs.Near.{IsNearWindow, IsNearNode, LawNearDecide, beyond_cell, beyond_parts}
 use Rattle.figure_laws.proofs.Sets.Dimensions.{segment_of_triangle, point_of_segment}
 use Rattle.cell_laws.proofs.Cells.Matrix.{decided_by_samples}
 use Rattle.near_laws.proofs.Beyond.Shown.{beyond_is_there}

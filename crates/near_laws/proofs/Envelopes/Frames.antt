@@ -1,7 +1,6 @@
 -- The envelope of a whole figure holds it; so each common part of two frames holds all that is in neither exterior.
-use Rattle.std.proofs.Common.{◌≡◌, ◌⊎◌, inl, inr, ℤ, ◌≤ℤ◌, refl, sym, subst, arith}
+use Rattle.std.proofs.Common.{◌≡◌, ◌⊎◌, inl, inr, refl, sym, subst, arith}
 use Rattle.std.specs.Prelude.{Option, Some, None}
-use Rattle.std.specs.Int.{int_max, int_min}
 use Rattle.std.proofs.lemmas.Int.{ints, clamps}
 use Rattle.im_matrix.specs.declared.Loc.TheVariants.{Exterior}
 use Rattle.plane_laws.specs.Plane.{Point}
