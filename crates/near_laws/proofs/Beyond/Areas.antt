@@ -95,7 +95,8 @@ module _ (a b : Figure) (valid : AreValid a b) (rule : Rule) (x : Extent) (is : 
         r = area_directions a valid.a_shaped valid.a_valid (point_of c.q)
 
         none_covered : HoldsAlong (λ p. is_covered a p ≡ true) (point_of c.q) (outward c.side) → ⊥
-        none_covered on = never_both (is_covered a) (point_of c.q) (outward c.side) on (bare_outward (outward c.side) (outward_gains c.side))
+        none_covered on =
+            never_both (is_covered a) (point_of c.q) (outward c.side) on (bare_outward (outward c.side) (outward_gains c.side))
 
         by_cover :
             (i : ℕ) → IsInSector r.rays i (outward c.side)
@@ -106,7 +107,8 @@ module _ (a b : Figure) (valid : AreValid a b) (rule : Rule) (x : Extent) (is : 
 
         by : IsAlongAreas a (point_of c.q) (outward c.side) ⊎ HasSector r.rays (outward c.side)
             → HoldsSegment (IsInCell a b rule (cell Boundary Exterior))
-        by (inl on) = absurd (none_covered (record { from = on.from; holds = λ n far p away. covered_on p a.areas (on.holds n far p away) }))
+        by (inl on) =
+            absurd (none_covered (record { from = on.from; holds = λ n far p away. covered_on p a.areas (on.holds n far p away) }))
         by (inr s) = by_cover s.i s.within (sector_alike a valid.a_shaped (point_of c.q) r.rays r.at s.i s.below)
 
 -- where areas stick out, a segment of the boundary is shown

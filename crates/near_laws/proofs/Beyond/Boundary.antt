@@ -79,7 +79,7 @@ module _ (f : Figure) (shaped : IsWellShaped f) (valid : IsValid f) (rule : Rule
         let far = away_point_is v d m in
         let on : is_covered f q ≡ true = held.holds (suc l) (omega arith) q away in
         let alike : is_covered f (away_point v d m) ≡ is_covered f q =
-        cover.alike cover.n (omega arith) d (away_point v d m) q (away_near cover.n (omega arith) far)
+        cover.alike cover.n (omega arith) d (away_point v d m) q (away_near {p = away_point v d m} cover.n (omega arith) far)
         (near_near cover.n near (away_near (cover.n + cover.n) (omega arith) away)) (away_cone (omega arith) far)
         (two_steps_cone r (left_turn r) bent n l (away_point_is v r n) away) in
         let off : is_covered f (away_point v d m) ≡ false = none.holds (suc m) (omega arith) (away_point v d m) far in

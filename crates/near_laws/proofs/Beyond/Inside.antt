@@ -160,7 +160,9 @@ module _ (f : Figure) (shaped : IsWellShaped f) (valid : IsValid f) (k : ℕ) (a
   on_rings [] each m h = absurd (true≢false (sym h))
   on_rings (ring ∷ rings) each m h = elim (some_append m ring (positions_of_ways rings) h) [
     | inl at ↦ some_of_two (is_on_edge m) (edges_of ring) (edges_of_rings rings) (inl (each 0 ring refl m at))
-    | inr at ↦ some_of_two (is_on_edge m) (edges_of ring) (edges_of_rings rings) (inr (on_rings rings (λ j other other_is. each (suc j) other other_is) m at))
+    | inr at ↦
+        some_of_two (is_on_edge m) (edges_of ring) (edges_of_rings rings)
+        (inr (on_rings rings (λ j other other_is. each (suc j) other other_is) m at))
   ]
 
   -- a point at a position of the area's rings is on one of its edges

@@ -78,7 +78,8 @@ test_of_within inner outer h =
 
 -- a envelope that sticks out has a position outside
 pub far_position :
-    (positions : List Pt) (envelope w : Option Window) → IsEnvelope positions envelope → sticks_out envelope w ≡ true → HasFarPosition w positions
+    (positions : List Pt) (envelope w : Option Window) → IsEnvelope positions envelope → sticks_out envelope w ≡ true
+    → HasFarPosition w positions
 far_position positions None w is h = absurd (true≢false (sym h))
 far_position positions (Some box) None is h = by positions is.0
   where

@@ -130,7 +130,8 @@ area_directions f shaped valid v = record {
         let stays = alone_valid f valid in
         directions_exist alone alone (record { a_shaped = alone_is; b_shaped = alone_is; a_valid = stays; b_valid = stays }) v
 
-    on_areas : (p : Point) → is_on_edges p (segs_of_both alone alone) ≡ true → is_on_edges p (edges_of_rings (rings_of_areas f.areas)) ≡ true
+    on_areas :
+        (p : Point) → is_on_edges p (segs_of_both alone alone) ≡ true → is_on_edges p (edges_of_rings (rings_of_areas f.areas)) ≡ true
     on_areas p on = by_test (is_on_edges p (edges_of_rings (rings_of_areas f.areas))) refl
       where
         by_test :

@@ -82,7 +82,8 @@ module _ (a b : Figure) (valid : AreValid a b) (rule : Rule) (x : Extent) (is : 
     -- where areas stick out, a triangle of the interior is shown: in a sector at a point inside one of them
     areas_shown : sticks_out x.areas w ≡ true → HoldsTriangle (IsInCell a b rule (cell Interior Exterior))
     areas_shown some =
-        (sector_is_one a b valid rule t.t e.rays e.are.rays_at 0 (first_sector e.rays) m.d m.d m.within m.within (cell Interior Exterior) germ).1
+        (sector_is_one a b valid rule t.t e.rays e.are.rays_at 0 (first_sector e.rays) m.d m.d m.within m.within (cell Interior Exterior)
+        germ).1
       where
         far : HasFarPosition w (positions_of_ways (rings_of_areas a.areas))
         far = far_position (positions_of_ways (rings_of_areas a.areas)) x.areas w is.areas some
@@ -133,7 +134,7 @@ boundary_there a b valid rule x is w holds = by (sticks_out x.areas w) refl (sti
     by false h true i = ends_shown a b valid rule x is w holds h i
     by false h false i = tt
 
--- ---- B1
+-- ---- two figures
 -- the two figures the other way round
 swapped_valid : (a b : Figure) → AreValid a b → AreValid b a
 swapped_valid a b valid =

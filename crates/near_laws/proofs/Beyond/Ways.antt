@@ -41,7 +41,8 @@ end_way e moves v = by (same_or_not v (point_of e.a))
         record { forward = true; d = way_to v (point_of e.b) apart; toward = way_to_is v (point_of e.b) apart }
 
 -- it leads to one of the ends
-pub leads_to_end : (e : Seg) (v : Point) (way : HasEndWay e v) → IsInCone v way.d way.d (point_of e.a) ⊎ IsInCone v way.d way.d (point_of e.b)
+pub leads_to_end :
+    (e : Seg) (v : Point) (way : HasEndWay e v) → IsInCone v way.d way.d (point_of e.a) ⊎ IsInCone v way.d way.d (point_of e.b)
 leads_to_end e v way = by way.forward way.toward
   where
     by :

@@ -113,11 +113,13 @@ near_by_least w box v least = (λ near. common near, λ h. record { box = box; l
 -- two boxes have a common point or they haven't
 common_decided : (box w : Window) → HasCommonPoint box w ⊎ (¬ HasCommonPoint box w)
 common_decided box w =
-    by (at_most (int_max box.low_x w.low_x) (int_min box.high_x w.high_x)) (at_most (int_max box.low_y w.low_y) (int_min box.high_y w.high_y))
+    by (at_most (int_max box.low_x w.low_x) (int_min box.high_x w.high_x))
+    (at_most (int_max box.low_y w.low_y) (int_min box.high_y w.high_y))
   where
     at_most : (x y : ℤ) → (x ≤ℤ y) ⊎ (¬ (x ≤ℤ y))
     at_most x y =
-        by_order x y (λ h. inl (omega (arith, linear, h))) (λ h. inl (omega (arith, linear, h))) (λ h. inr (λ k. omega (arith, linear, h, k)))
+        by_order x y (λ h. inl (omega (arith, linear, h))) (λ h. inl (omega (arith, linear, h)))
+        (λ h. inr (λ k. omega (arith, linear, h, k)))
 
     by :
         (int_max box.low_x w.low_x ≤ℤ int_min box.high_x w.high_x) ⊎ (¬ (int_max box.low_x w.low_x ≤ℤ int_min box.high_x w.high_x))

@@ -85,7 +85,8 @@ near_decide a b valid rule few few_is_node x y is_x is_y w holds m greatest c =
         each : (d : Dim) → Told d → rank d ≤ rank (dimension_at all.matrix c)
         each d (inl e) =
             shown_at_most (IsInCell a b rule c) d (dimension_at all.matrix c)
-            (subst (ShowsDimension (IsInCell a b rule c)) (sym e) (beyond_is_there a b valid rule x y is_x is_y w holds c)) (all.of_points c)
+            (subst (ShowsDimension (IsInCell a b rule c)) (sym e) (beyond_is_there a b valid rule x y is_x is_y w holds c))
+            (all.of_points c)
         each d (inr s) =
             (all.of_samples c).most d (inr (record { v = s.v; is_node = few_is_node s.v s.is_node.0; sample = s.sample }))
 

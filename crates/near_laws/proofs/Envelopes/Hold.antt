@@ -75,7 +75,8 @@ shows_out envelope w p inside out = by (sticks_out envelope w) refl
 
 -- what fails beyond all positions holds only in their envelope
 in_envelope_by :
-    (positions : List Pt) (envelope : Option Window) → IsEnvelope positions envelope → (p : Point) → ¬ IsBeyondAll positions p → IsInBox envelope p
+    (positions : List Pt) (envelope : Option Window) → IsEnvelope positions envelope → (p : Point) → ¬ IsBeyondAll positions p
+    → IsInBox envelope p
 in_envelope_by positions envelope is p near = elim (in_envelope_or_past positions envelope is p) [
   | inl h ↦ h
   | inr h ↦ absurd (near h)

@@ -1,5 +1,5 @@
--- Past a line that has all positions of some areas behind it the areas cover nothing; and a point is in the envelope of some positions or past
--- such a line.
+-- Past a line that has all positions of some areas behind it the areas cover nothing; and a point is in the envelope of some
+-- positions or past a line that has them all behind it.
 use Rattle.std.proofs.Common.{◌≡◌, ◌⊎◌, inl, inr, ℤ, pos, ◌≤ℤ◌, ◌<ℤ◌, ◌-ℤ◌, ◌*ℤ◌, neg_ℤ, Bool, true, false, not, ◌&&◌, List, [], ◌∷◌}
 use Rattle.std.proofs.Common.{ap, refl, sym, subst, ◌∙◌, arith}
 use Rattle.std.specs.Prelude.{Option, Some, None, int_lt}
@@ -304,7 +304,8 @@ line_below y w s hw low hs =
 
 -- by the sides of the envelope, or a line below p where there is no position
 pub in_envelope_or_past :
-    (positions : List Pt) (envelope : Option Window) → IsEnvelope positions envelope → (p : Point) → IsInBox envelope p ⊎ IsBeyondAll positions p
+    (positions : List Pt) (envelope : Option Window) → IsEnvelope positions envelope → (p : Point)
+    → IsInBox envelope p ⊎ IsBeyondAll positions p
 in_envelope_or_past positions None none p =
     let line = neg_ℤ (pos (size_of p.y)) -ℤ pos 1 in
     inr (record {

@@ -1,5 +1,6 @@
 -- What is seen at a point outside of the common part of two figures is no more than their envelopes tell.
-use Rattle.std.proofs.Common.{◌≡◌, ◌⊎◌, inl, inr, ℕ, suc, ◌+◌, ◌≤◌, Bool, true, false, List, [], ◌∷◌, ◌++◌, ap, refl, sym, subst, ◌∙◌, arith}
+use Rattle.std.proofs.Common.{◌≡◌, ◌⊎◌, inl, inr, ℕ, suc, ◌+◌, ◌≤◌, Bool, true, false, List, [], ◌∷◌, ◌++◌}
+use Rattle.std.proofs.Common.{ap, refl, sym, subst, ◌∙◌, arith}
 use Rattle.std.specs.Prelude.{Option}
 use Rattle.std.proofs.lemmas.Bool.{true≢false, or_from}
 use Rattle.plane_laws.specs.Plane.{Point}
@@ -217,8 +218,10 @@ module _ (a b : Figure) (valid : AreValid a b) (rule : Rule) (x y : Extent) (is_
         let in_a = none_append (is_at q) (all_positions a) (ends_of_lines a.lines) both.0 in
         let in_b = none_append (is_at q) (all_positions b) (ends_of_lines b.lines) both.1 in
         told_together x y w 2 (omega arith) c.a c.b
-        (told_of_location a valid.a_shaped rule x is_x w q p.out 2 (told_one a valid.a_shaped rule x is_x w q p.out in_a.0 in_a.1) c.a at.in_a)
-        (told_of_location b valid.b_shaped rule y is_y w q p.out 2 (told_one b valid.b_shaped rule y is_y w q p.out in_b.0 in_b.1) c.b at.in_b)
+        (told_of_location a valid.a_shaped rule x is_x w q p.out 2 (told_one a valid.a_shaped rule x is_x w q p.out in_a.0 in_a.1) c.a
+        at.in_a)
+        (told_of_location b valid.b_shaped rule y is_y w q p.out 2 (told_one b valid.b_shaped rule y is_y w q p.out in_b.0 in_b.1) c.b
+        at.in_b)
         (one_exterior a b rule w holds c q p.out at)
 
     -- in a sector
@@ -235,8 +238,10 @@ module _ (a b : Figure) (valid : AreValid a b) (rule : Rule) (x y : Extent) (is_
         let off = none_append (is_on_edge q) (segs_of a) (segs_of b) free.off in
         let lone = no_position a b q free.lone in
         told_together x y w 3 (omega arith) c.a c.b
-        (told_of_location a valid.a_shaped rule x is_x w q p.out 3 (told_two a valid.a_shaped rule x is_x w q p.out lone.0 off.0) c.a at.in_a)
-        (told_of_location b valid.b_shaped rule y is_y w q p.out 3 (told_two b valid.b_shaped rule y is_y w q p.out lone.1 off.1) c.b at.in_b)
+        (told_of_location a valid.a_shaped rule x is_x w q p.out 3 (told_two a valid.a_shaped rule x is_x w q p.out lone.0 off.0) c.a
+        at.in_a)
+        (told_of_location b valid.b_shaped rule y is_y w q p.out 3 (told_two b valid.b_shaped rule y is_y w q p.out lone.1 off.1) c.b
+        at.in_b)
         (one_exterior a b rule w holds c q p.out at)
 
     -- each sample
