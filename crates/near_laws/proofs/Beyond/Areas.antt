@@ -1,9 +1,7 @@
 -- Where the envelope of the areas sticks out of the common part, a segment of the boundary is shown, at a position farthest out.
-use Rattle.std.proofs.Common.{◌≡◌, ◌⊎◌, inl, inr, ℕ, suc, ◌+◌, pos, ◌<ℤ◌, Bool, true, false, List, [], ◌∷◌, refl, sym, ◌∙◌, subst, arith}
+use Rattle.std.proofs.Common.{◌≡◌, ◌⊎◌, inl, inr, ℕ, pos, ◌<ℤ◌, true, false, List, [], ◌∷◌, refl, subst, arith}
 use Rattle.std.specs.Prelude.{Option}
 use Rattle.std.specs.List.{Any}
-use Rattle.std.proofs.lemmas.Bool.{true≢false}
-use Rattle.plane_laws.specs.Plane.{Point}
 use Rattle.plane_laws.specs.Directions.{Direction, PointSameWay}
 use Rattle.plane_laws.specs.Along.{HoldsAlong}
 use Rattle.plane_exact.specs.Places.{point_of}
@@ -24,8 +22,8 @@ use Rattle.point_set.specs.Visible.{AreValid}
 use Rattle.point_set.specs.declared.extent.Extent.{Extent}
 use Rattle.point_set.specs.Extents.{IsExtent}
 use Rattle.near_laws.specs.Near.{HoldsCommonPart, sticks_out}
-use Rattle.plane_laws.proofs.Near.Away.{away_point, away_point_is}
 use Rattle.plane_laws.proofs.Segments.On.{Decides-is_on_segment}
+use Rattle.kind_laws.proofs.Cover.BesideRay.{not_uncovered}
 use Rattle.kind_laws.proofs.Hands.InSector.{moving}
 use Rattle.kind_laws.proofs.Location.Decided.{IsSectorAlike, sector_alike}
 use Rattle.stay_laws.proofs.Even.Germs.{edge_at}
@@ -39,14 +37,7 @@ use Rattle.near_laws.proofs.Beyond.Rays.{IsAlongAreas, HasAreaDirections, area_d
 use Rattle.near_laws.proofs.Beyond.Ways.{end_way, leads_to_end}
 use Rattle.near_laws.proofs.Envelopes.Past.{uncovered_beyond}
 
--- a test that holds far in along a direction doesn't fail there
-never_both :
-    (test : Point → Bool) (v : Point) (d : Direction) → HoldsAlong (λ q. test q ≡ true) v d → HoldsAlong (λ q. test q ≡ false) v d → ⊥
-never_both test v d h k =
-    let n = h.from + k.from in
-    let q = away_point v d n in
-    true≢false (sym (h.holds (suc n) (omega arith) q (away_point_is v d n)) ∙ k.holds (suc n) (omega arith) q (away_point_is v d n))
-
+-- two figures, and a farthest position outside of their common part
 module _ (a b : Figure) (valid : AreValid a b) (rule : Rule) (x : Extent) (is : IsExtent a rule x) (w : Option Window)
     (holds : HoldsCommonPart a b rule w) (c : HasCorner w (positions_of_ways (rings_of_areas a.areas)))
   where
@@ -96,7 +87,7 @@ module _ (a b : Figure) (valid : AreValid a b) (rule : Rule) (x : Extent) (is : 
 
         none_covered : HoldsAlong (λ p. is_covered a p ≡ true) (point_of c.q) (outward c.side) → ⊥
         none_covered on =
-            never_both (is_covered a) (point_of c.q) (outward c.side) on (bare_outward (outward c.side) (outward_gains c.side))
+            not_uncovered a (point_of c.q) (outward c.side) on (bare_outward (outward c.side) (outward_gains c.side))
 
         by_cover :
             (i : ℕ) → IsInSector r.rays i (outward c.side)

@@ -1,6 +1,5 @@
 -- What the envelopes tell of a cell is there.
-use Rattle.std.proofs.Common.{◌≡◌, ◌⊎◌, inl, inr, ◌+◌, Bool, true, false, List, refl, arith}
-use Rattle.std.proofs.Common.{◌<◌, [], ◌∷◌}
+use Rattle.std.proofs.Common.{◌≡◌, ◌⊎◌, inl, inr, Bool, true, false, List, refl, arith, ◌<◌, [], ◌∷◌}
 use Rattle.std.specs.Prelude.{Option}
 use Rattle.plane_laws.specs.Plane.{Point}
 use Rattle.plane_laws.specs.Directions.{Direction}
@@ -18,26 +17,19 @@ use Rattle.point_set.specs.declared.rule.Rule.{Rule}
 use Rattle.point_set.specs.Dimension.{HoldsTriangle, ShowsDimension}
 use Rattle.point_set.specs.Location.{IsLocation, IsAreaInterior}
 use Rattle.point_set.specs.Relation.{IsInCell}
-use Rattle.point_set.specs.Nodes.{positions_of_ways, rings_of_areas, segs_of, segs_of_both}
+use Rattle.point_set.specs.Nodes.{positions_of_ways, rings_of_areas}
 use Rattle.point_set.specs.Visible.{AreValid}
 use Rattle.point_set.specs.declared.extent.Extent.{Extent}
 use Rattle.point_set.specs.Extents.{IsExtent}
 use Rattle.point_set.specs.Germ.{IsPairGerm}
-use Rattle.point_set.specs.Rings.{is_on_edge}
 use Rattle.point_set.specs.Sectors.{sectors_of}
 use Rattle.point_set.specs.declared.dim_loc.DimLoc.TheVariants as kind
-use Rattle.near_laws.specs.Near.{IsInBox, HoldsCommonPart, sticks_out, interior_by, boundary_by, beyond, beyond_parts}
-use Rattle.near_laws.specs.Near.{LawBeyondIsThere}
-use Rattle.plane_laws.proofs.Segments.Mixes.{start_on_segment}
-use Rattle.figure_laws.proofs.Edges.Lists.{none_append}
+use Rattle.near_laws.specs.Near.{IsInBox, HoldsCommonPart, sticks_out, interior_by, boundary_by, beyond, beyond_parts, LawBeyondIsThere}
+use Rattle.kind_laws.proofs.Cover.BesideRay.{interior_is_open}
 use Rattle.kind_laws.proofs.Cover.Inside.{interior_of_one}
-use Rattle.kind_laws.proofs.Cover.Neighbourhood.{around_from_interior}
 use Rattle.kind_laws.proofs.Location.Decided.{HasSectorWay, sector_way}
-use Rattle.stay_laws.proofs.Stays.OffEdges.{interior_off_edges}
 use Rattle.cell_laws.proofs.Cells.Outside.{outside_holds_triangle}
 use Rattle.cell_laws.proofs.Directions.Exist.{HasDirections, directions_exist}
-use Rattle.cell_laws.proofs.Directions.Middles.{sector_free}
-use Rattle.cell_laws.proofs.Free.Ways.{HasFreeWay, free_along}
 use Rattle.cell_laws.proofs.Germs.Sectors.{sector_is_one}
 use Rattle.near_laws.proofs.Beyond.Areas.{area_boundary}
 use Rattle.near_laws.proofs.Beyond.Inside.{HasInsideOut, inside_out, HasAreaAt, area_at}
@@ -61,22 +53,14 @@ first_sector (ray ∷ rays) = omega arith
 module _ (a b : Figure) (valid : AreValid a b) (rule : Rule) (x : Extent) (is : IsExtent a rule x) (w : Option Window)
     (holds : HoldsCommonPart a b rule w)
   where
-    -- off the edges, near a point inside an area, along a direction in which no edge runs, all is interior
-    interior_along :
-        (t : Point) → IsAreaInterior a t → (d : Direction) → HasFreeWay a b t d d → HoldsAlong (λ p. IsLocation a rule p Interior) t d
-    interior_along t inside d way =
-        let covered = (around_from_interior a t inside).along d in
+    -- near a point interior to the areas all is interior
+    interior_along : (t : Point) → IsAreaInterior a t → (d : Direction) → HoldsAlong (λ p. IsLocation a rule p Interior) t d
+    interior_along t inside d =
+        let inner = interior_is_open a valid.a_shaped t inside d in
         record {
-          from = covered.from + way.from;
+          from = inner.from;
           holds = λ n far p away.
-              let free = way.free n n (omega (arith, far)) (omega (arith, far)) p p away away p (start_on_segment p p) in
-              record {
-                decided_by = kind.AreaInterior;
-                decides =
-                    interior_off_edges a valid.a_shaped p (none_append (is_on_edge p) (segs_of a) (segs_of b) free.off).0
-                    (covered.holds n (omega (arith, far)) p away);
-                gives = refl;
-              };
+              record { decided_by = kind.AreaInterior; decides = inner.holds n far p away; gives = refl };
         }
 
     -- where areas stick out, a triangle of the interior is shown: in a sector at a point inside one of them
@@ -103,8 +87,7 @@ module _ (a b : Figure) (valid : AreValid a b) (rule : Rule) (x : Extent) (is : 
         germ : IsPairGerm a b rule t.t m.d (cell Interior Exterior)
         germ =
             germ_out a b valid rule x is w holds t.t t.out m.d Interior (λ e. cc)
-            (interior_along t.t (interior_of_one a valid.a_shaped h.k h.area h.is t.t t.inside) m.d
-            (free_along a b t.t m.d (sector_free t.t (segs_of_both a b) e.rays e.are.rays_at 0 m.d m.within)))
+            (interior_along t.t (interior_of_one a valid.a_shaped h.k h.area h.is t.t t.inside) m.d)
 
 -- ---- the parts of one figure
 -- the interior

@@ -1,18 +1,17 @@
 -- Past a line that has all positions of some areas behind it the areas cover nothing; and a point is in the envelope of some
 -- positions or past a line that has them all behind it.
-use Rattle.std.proofs.Common.{◌≡◌, ◌⊎◌, inl, inr, ℤ, pos, ◌≤ℤ◌, ◌<ℤ◌, ◌-ℤ◌, ◌*ℤ◌, neg_ℤ, Bool, true, false, not, ◌&&◌, List, [], ◌∷◌}
-use Rattle.std.proofs.Common.{ap, refl, sym, subst, ◌∙◌, arith}
-use Rattle.std.specs.Prelude.{Option, Some, None, int_lt}
+use Rattle.std.proofs.Common.{◌≡◌, ◌⊎◌, inl, inr, ℤ, pos, ◌≤ℤ◌, ◌<ℤ◌, ◌-ℤ◌, ◌*ℤ◌, neg_ℤ, Bool, true, false, not, ◌&&◌, List, [], ◌∷◌, ap}
+use Rattle.std.proofs.Common.{refl, sym, subst, ◌∙◌, arith, ℕ, ◌+◌, ◌+ℤ◌}
+use Rattle.std.specs.Prelude.{Option, Some, None}
 use Rattle.std.specs.List.{All, AllByRecursion, list_any}
 use Rattle.std.proofs.lemmas.Bool.{true≢false, or_from, false_from_ne_true}
 use Rattle.std.proofs.lemmas.Int.{ints}
 use Rattle.std.proofs.lemmas.List.Elements.{All-head, All-tail}
-use Rattle.whole_algebra.proofs.Laws.{linear, *ℤ_one}
-use Rattle.whole_algebra.proofs.Signs.{<ℤ_weaken, scale_≤ℤ_right, neg_factor, pos_factor, pos-*-pos, neg-*-pos, nonpos-*-nonpos}
-use Rattle.whole_algebra.proofs.Signs.{nonneg-*-nonpos}
-use Rattle.whole_algebra.proofs.Polynomials.{var, num, ◌⊕◌, ◌⊖◌, ◌⊗◌, minus, identity}
+use Rattle.whole_algebra.proofs.Laws.{linear, *ℤ_one, +ℤ-*ℤ, one-*ℤ}
+use Rattle.whole_algebra.proofs.Signs.{scale_≤ℤ_right}
+use Rattle.whole_algebra.proofs.Polynomials.{var, num, ◌⊖◌, ◌⊗◌, minus}
 use Rattle.whole_algebra.proofs.Certificates.{at_most, less_from, positive, natural, ◌⊞◌, ◌⊠◌}
-use Rattle.plane_laws.specs.Plane.{Point, turn}
+use Rattle.plane_laws.specs.Plane.{Point, turn, IsOnSegment}
 use Rattle.plane_exact.specs.Places.{point_of}
 use Rattle.plane_exact.specs.declared.point.Pt.{Pt}
 use Rattle.plane_exact.specs.declared.point.Seg.{Seg}
@@ -22,7 +21,7 @@ use Rattle.point_set.specs.declared.figure.Area.{Area}
 use Rattle.point_set.specs.Lines.{is_at, is_at_some}
 use Rattle.point_set.specs.Location.{location, location_by, is_not_exterior, is_covered_by, edges_of_rings, rings_of}
 use Rattle.point_set.specs.Rings.{is_on_edge, is_on_edges, is_low, crosses, crosses_from, differ, is_odd, is_inside, edges_of}
-use Rattle.point_set.specs.Shape.{IsClosed, IsAreaShaped}
+use Rattle.point_set.specs.Shape.{IsAreaShaped}
 use Rattle.point_set.specs.Nodes.{positions_of_ways, rings_of_areas}
 use Rattle.point_set.specs.Extents.{IsEnvelope}
 use Rattle.near_laws.specs.Near.{IsInBox}
@@ -30,9 +29,11 @@ use Rattle.plane_laws.proofs.Near.Near.{size_of, size_is}
 use Rattle.plane_laws.proofs.Near.Parted.{affine_on}
 use Rattle.plane_laws.proofs.Points.Same.{same_refl, same_sym, Decides-is_same_point}
 use Rattle.plane_laws.proofs.Segments.Mixes.{start_on_segment, segment_same}
-use Rattle.plane_laws.proofs.Segments.On.{Decides-int_le, Decides-int_lt, Decides-is_on_segment}
-use Rattle.ring_laws.proofs.Parity.Ring.{is_odd_change, closed_change}
+use Rattle.plane_laws.proofs.Segments.On.{Decides-int_le, Decides-is_on_segment}
+use Rattle.figure_laws.proofs.Edges.Lists.{none_append}
+use Rattle.ring_laws.proofs.Germs.Areas.{location_stays}
 use Rattle.side_laws.proofs.Edges.Places.{off_edge}
+use Rattle.side_laws.proofs.Edges.Strip.{positive_between}
 use Rattle.kind_laws.proofs.Location.EdgeRays.{all_split, all_map}
 use Rattle.near_laws.proofs.Boxes.Sides.{Side, past, distance, past_is, edge_of, in_not_past, in_or_past}
 use Rattle.near_laws.proofs.Boxes.Sides.Side.{ToLeft, ToRight, ToBottom, ToTop}
@@ -61,120 +62,31 @@ off_all_behind side m p ahead [] all = refl
 off_all_behind side m p ahead (e ∷ edges) all =
     or_from (is_on_edge p e) (is_on_edges p edges) (off_behind side m p ahead e all.0) (off_all_behind side m p ahead edges all.1)
 
--- ---- crossings
--- whether the ray crosses, by what tells where the ends are
-crossing_none :
-    (b c : Bool) (t : ℤ) → (b ≡ true → c ≡ false → t ≤ℤ pos 0) → (b ≡ false → c ≡ true → pos 0 ≤ℤ t) → crosses_from b c t ≡ false
-crossing_none true true t up down = refl
-crossing_none false false t up down = refl
-crossing_none true false t up down = let h = up refl refl in false_from_ne_true (int_lt (pos 0) t) (λ e. omega (arith, ints, linear, h, e))
-crossing_none false true t up down =
-    let h = down refl refl in false_from_ne_true (int_lt t (pos 0)) (λ e. omega (arith, ints, linear, h, e))
+-- what is between two points beyond a line is beyond it
+ahead_between :
+    (side : Side) (m : ℤ) (p q x : Point) → pos 0 <ℤ distance side m p → pos 0 <ℤ distance side m q → IsOnSegment p q x
+    → pos 0 <ℤ distance side m x
+ahead_between side m p q x at_p at_q on =
+    subst (λ z. pos 0 <ℤ z) (past_is side m x)
+    (positive_between (past side m) (subst (λ z. pos 0 <ℤ z) (sym (past_is side m p)) at_p)
+    (subst (λ z. pos 0 <ℤ z) (sym (past_is side m q)) at_q) on)
 
--- crosses wherever the ends are on two sides
-crossing_each :
-    (b c : Bool) (t : ℤ) → (b ≡ true → c ≡ false → pos 0 <ℤ t) → (b ≡ false → c ≡ true → t <ℤ pos 0) → crosses_from b c t ≡ differ b c
-crossing_each true true t up down = refl
-crossing_each false false t up down = refl
-crossing_each true false t up down = (Decides-int_lt (pos 0) t).1 (up refl refl)
-crossing_each false true t up down = (Decides-int_lt t (pos 0)).1 (down refl refl)
+-- ---- above or below all positions no edge is crossed
+-- a position below a line is at most as high as what is above the line
+low_behind : (m : ℤ) (p : Point) → pos 0 <ℤ distance ToTop m p → (a : Pt) → IsBehind ToTop m a → is_low p (point_of a) ≡ true
+low_behind m p ahead a behind =
+    let h : (a.y *ℤ p.w) ≤ℤ (m *ℤ p.w) =
+    scale_≤ℤ_right {c = p.w} (omega (arith, linear, p.heavy)) (omega (arith, linear, behind, *ℤ_one m)) in
+    (Decides-int_le (a.y *ℤ p.w) (p.y *ℤ pos 1)).1 (omega (arith, linear, h, ahead, *ℤ_one p.y))
 
--- ---- a point and an end, in plain numbers
--- what is before a line is before all that is beyond it
-gap_high : (m x w a : ℤ) → pos 0 <ℤ w → pos 0 <ℤ (x -ℤ (m *ℤ w)) → (a -ℤ (m *ℤ pos 1)) ≤ℤ pos 0 → ((a *ℤ w) -ℤ x) <ℤ pos 0
-gap_high m x w a hw ahead behind =
-    let h : (a *ℤ w) ≤ℤ (m *ℤ w) = scale_≤ℤ_right {c = w} (omega (arith, linear, hw)) (omega (arith, linear, behind, *ℤ_one m)) in
-    omega (arith, linear, h, ahead)
+-- one above a line is higher than what is below it
+high_behind : (m : ℤ) (p : Point) → pos 0 <ℤ distance ToBottom m p → (a : Pt) → IsBehind ToBottom m a → is_low p (point_of a) ≡ false
+high_behind m p ahead a behind =
+    let h : (m *ℤ p.w) ≤ℤ (a.y *ℤ p.w) =
+    scale_≤ℤ_right {c = p.w} (omega (arith, linear, p.heavy)) (omega (arith, linear, behind, *ℤ_one m)) in
+    false_from_ne_true (is_low p (point_of a)) (λ e. omega (arith, ints, linear, h, ahead, e, *ℤ_one p.y))
 
--- and the other way round
-gap_low : (m x w a : ℤ) → pos 0 <ℤ w → pos 0 <ℤ ((m *ℤ w) -ℤ x) → ((m *ℤ pos 1) -ℤ a) ≤ℤ pos 0 → pos 0 <ℤ ((a *ℤ w) -ℤ x)
-gap_low m x w a hw ahead behind =
-    let h : (m *ℤ w) ≤ℤ (a *ℤ w) = scale_≤ℤ_right {c = w} (omega (arith, linear, hw)) (omega (arith, linear, behind, *ℤ_one m)) in
-    omega (arith, linear, h, ahead)
-
--- an end is at most as high as p, or higher
-low_gap : (p : Point) (a : Pt) → is_low p (point_of a) ≡ true → ((a.y *ℤ p.w) -ℤ p.y) ≤ℤ pos 0
-low_gap p a h = omega (arith, ints, linear, h, *ℤ_one p.y)
-
--- or it is higher
-high_gap : (p : Point) (a : Pt) → is_low p (point_of a) ≡ false → pos 0 <ℤ ((a.y *ℤ p.w) -ℤ p.y)
-high_gap p a h = omega (arith, ints, linear, h, *ℤ_one p.y)
-
--- and the other way round
-is_low_by : (p : Point) (a : Pt) → ((a.y *ℤ p.w) -ℤ p.y) <ℤ pos 0 → is_low p (point_of a) ≡ true
-is_low_by p a h = (Decides-int_le (a.y *ℤ p.w) (p.y *ℤ pos 1)).1 (omega (arith, linear, h, *ℤ_one p.y))
-
--- or higher
-is_high_by : (p : Point) (a : Pt) → pos 0 <ℤ ((a.y *ℤ p.w) -ℤ p.y) → is_low p (point_of a) ≡ false
-is_high_by p a h = false_from_ne_true (is_low p (point_of a)) (λ e. omega (arith, ints, linear, h, e, *ℤ_one p.y))
-
--- the turn from the two ends to p, by the gaps across and up
-turn_gaps :
-    (a b : Pt) (p : Point) → p.w *ℤ turn (point_of a) (point_of b) p
-    ≡ (((a.x *ℤ p.w) -ℤ p.x) *ℤ ((b.y *ℤ p.w) -ℤ p.y)) -ℤ (((b.x *ℤ p.w) -ℤ p.x) *ℤ ((a.y *ℤ p.w) -ℤ p.y))
-unfolding turn
-turn_gaps a b p =
-    let ax = var 0 in
-    let ay = var 1 in
-    let bx = var 2 in
-    let by = var 3 in
-    let px = var 4 in
-    let py = var 5 in
-    let pw = var 6 in
-    let one = num (pos 1) in
-    identity (pw ⊗ ((ax ⊗ (by ⊗ pw ⊖ one ⊗ py) ⊖ ay ⊗ (bx ⊗ pw ⊖ one ⊗ px)) ⊕ one ⊗ (bx ⊗ py ⊖ by ⊗ px)))
-    ((ax ⊗ pw ⊖ px) ⊗ (by ⊗ pw ⊖ py) ⊖ (bx ⊗ pw ⊖ px) ⊗ (ay ⊗ pw ⊖ py))
-    (a.x ∷ a.y ∷ b.x ∷ b.y ∷ p.x ∷ p.y ∷ p.w ∷ []) refl
-
--- its sign, by those of two products
-turn_below : (w t f g : ℤ) → pos 0 <ℤ w → w *ℤ t ≡ f -ℤ g → f <ℤ g → t <ℤ pos 0
-turn_below w t f g hw e h = neg_factor w t hw (omega (arith, linear, e, h))
-
--- or above 0
-turn_above : (w t f g : ℤ) → pos 0 <ℤ w → w *ℤ t ≡ f -ℤ g → g <ℤ f → pos 0 <ℤ t
-turn_above w t f g hw e h = pos_factor w t hw (omega (arith, linear, e, h))
-
--- ---- the crossings of a ray that starts beyond the line
--- to the right: none
-right_none :
-    (m : ℤ) (p : Point) → pos 0 <ℤ distance ToRight m p → (e : Seg) → BothEnds (IsBehind ToRight m) e → crosses p e ≡ false
-right_none m p ahead e ends =
-    let first = gap_high m p.x p.w e.a.x p.heavy ahead ends.0 in
-    let second = gap_high m p.x p.w e.b.x p.heavy ahead ends.1 in
-    let f = ((e.a.x *ℤ p.w) -ℤ p.x) *ℤ ((e.b.y *ℤ p.w) -ℤ p.y) in
-    let g = ((e.b.x *ℤ p.w) -ℤ p.x) *ℤ ((e.a.y *ℤ p.w) -ℤ p.y) in
-    let t = turn (point_of e.a) (point_of e.b) p in
-    crossing_none (is_low p (point_of e.a)) (is_low p (point_of e.b)) t
-    (λ low high.
-    let f_sign : f <ℤ pos 0 = neg-*-pos first (high_gap p e.b high) in
-    let g_sign : pos 0 ≤ℤ g = nonpos-*-nonpos (<ℤ_weaken second) (low_gap p e.a low) in
-    <ℤ_weaken (turn_below p.w t f g p.heavy (turn_gaps e.a e.b p) (omega (arith, linear, f_sign, g_sign))))
-    (λ high low.
-    let f_sign : pos 0 ≤ℤ f = nonpos-*-nonpos (<ℤ_weaken first) (low_gap p e.b low) in
-    let g_sign : g <ℤ pos 0 = neg-*-pos second (high_gap p e.a high) in
-    <ℤ_weaken (turn_above p.w t f g p.heavy (turn_gaps e.a e.b p) (omega (arith, linear, f_sign, g_sign))))
-
--- to the left: each edge whose ends are on two sides
-left_each :
-    (m : ℤ) (p : Point) → pos 0 <ℤ distance ToLeft m p → (e : Seg) → BothEnds (IsBehind ToLeft m) e
-    → crosses p e ≡ differ (is_low p (point_of e.a)) (is_low p (point_of e.b))
-left_each m p ahead e ends =
-    let first = gap_low m p.x p.w e.a.x p.heavy ahead ends.0 in
-    let second = gap_low m p.x p.w e.b.x p.heavy ahead ends.1 in
-    let f = ((e.a.x *ℤ p.w) -ℤ p.x) *ℤ ((e.b.y *ℤ p.w) -ℤ p.y) in
-    let g = ((e.b.x *ℤ p.w) -ℤ p.x) *ℤ ((e.a.y *ℤ p.w) -ℤ p.y) in
-    let t = turn (point_of e.a) (point_of e.b) p in
-    crossing_each (is_low p (point_of e.a)) (is_low p (point_of e.b)) t
-    (λ low high.
-    let f_sign : pos 0 <ℤ f = pos-*-pos first (high_gap p e.b high) in
-    let g_sign : g ≤ℤ pos 0 = nonneg-*-nonpos (<ℤ_weaken second) (low_gap p e.a low) in
-    turn_above p.w t f g p.heavy (turn_gaps e.a e.b p) (omega (arith, linear, f_sign, g_sign)))
-    (λ high low.
-    let f_sign : f ≤ℤ pos 0 = nonneg-*-nonpos (<ℤ_weaken first) (low_gap p e.b low) in
-    let g_sign : pos 0 <ℤ g = pos-*-pos second (high_gap p e.a high) in
-    turn_below p.w t f g p.heavy (turn_gaps e.a e.b p) (omega (arith, linear, f_sign, g_sign)))
-
--- above or below all: none
+-- an edge with both ends on one side of p's height isn't crossed
 flat_none :
     (p : Point) (e : Seg) (b : Bool) → is_low p (point_of e.a) ≡ b → is_low p (point_of e.b) ≡ b → crosses p e ≡ false
 flat_none p e b h k = (λ i. crosses_from (h i) (k i) (turn (point_of e.a) (point_of e.b) p)) ∙ by b
@@ -183,66 +95,102 @@ flat_none p e b h k = (λ i. crosses_from (h i) (k i) (turn (point_of e.a) (poin
     by true = refl
     by false = refl
 
--- ---- the count of crossings is even
--- where no edge is crossed
-odd_none : (p : Point) (edges : List Seg) → AllByRecursion (λ e. crosses p e ≡ false) edges → is_odd p edges ≡ false
-odd_none p [] all = refl
-odd_none p (e ∷ edges) all = (λ i. differ (all.0 i) (is_odd p edges)) ∙ odd_none p edges all.1
-
--- where each edge is crossed whose ends are on two sides
-odd_each :
-    (p : Point) (edges : List Seg) → AllByRecursion (λ e. crosses p e ≡ differ (is_low p (point_of e.a)) (is_low p (point_of e.b))) edges
-    → is_odd p edges ≡ is_odd_change (λ v. is_low p (point_of v)) edges
-odd_each p [] all = refl
-odd_each p (e ∷ edges) all = λ i. differ (all.0 i) (odd_each p edges all.1 i)
-
--- of a closed ring with all positions behind the line
-pub even_behind :
-    (side : Side) (m : ℤ) (p : Point) → pos 0 <ℤ distance side m p → (ring : List Pt) → IsClosed ring
-    → AllByRecursion (BothEnds (IsBehind side m)) (edges_of ring) → is_odd p (edges_of ring) ≡ false
-even_behind ToLeft m p ahead ring closed all =
-    odd_each p (edges_of ring)
-    (all_map (BothEnds (IsBehind ToLeft m)) (λ e. crosses p e ≡ differ (is_low p (point_of e.a)) (is_low p (point_of e.b)))
-    (left_each m p ahead) (edges_of ring) all)
-    ∙ closed_change (λ v. is_low p (point_of v)) ring closed
-even_behind ToRight m p ahead ring closed all =
-    odd_none p (edges_of ring)
-    (all_map (BothEnds (IsBehind ToRight m)) (λ e. crosses p e ≡ false) (right_none m p ahead) (edges_of ring) all)
-even_behind ToBottom m p ahead ring closed all =
-    odd_none p (edges_of ring)
-    (all_map (BothEnds (IsBehind ToBottom m)) (λ e. crosses p e ≡ false)
-    (λ e ends. flat_none p e false (is_high_by p e.a (gap_low m p.y p.w e.a.y p.heavy ahead ends.0))
-    (is_high_by p e.b (gap_low m p.y p.w e.b.y p.heavy ahead ends.1)))
-    (edges_of ring) all)
-even_behind ToTop m p ahead ring closed all =
-    odd_none p (edges_of ring)
-    (all_map (BothEnds (IsBehind ToTop m)) (λ e. crosses p e ≡ false)
-    (λ e ends. flat_none p e true (is_low_by p e.a (gap_high m p.y p.w e.a.y p.heavy ahead ends.0))
-    (is_low_by p e.b (gap_high m p.y p.w e.b.y p.heavy ahead ends.1)))
-    (edges_of ring) all)
+-- so of such edges an even number, none, is crossed
+flat_even :
+    (p : Point) (b : Bool) (edges : List Seg) → AllByRecursion (BothEnds (λ a. is_low p (point_of a) ≡ b)) edges
+    → is_odd p edges ≡ false
+flat_even p b [] all = refl
+flat_even p b (e ∷ edges) all = λ i. differ (flat_none p e b all.0.0 all.0.1 i) (flat_even p b edges all.1 i)
 
 -- ---- areas
--- an area with all positions behind the line is exterior beyond it
+-- a line above all of some positions
+record HasTop (positions : List Pt) : Type 0 where
+  m : ℕ
+  behind : AllByRecursion (IsBehind ToTop (pos m)) positions
+
+-- by the sum of their sizes
+top_of : (positions : List Pt) → HasTop positions
+top_of [] = record { m = 0; behind = tt }
+top_of (p ∷ positions) =
+    let rest = top_of positions in
+    let small = (size_is p.y).below in
+    record {
+      m = size_of p.y + rest.m;
+      behind = (
+        omega (arith, linear, small, *ℤ_one (pos (size_of p.y + rest.m))),
+        all_map (IsBehind ToTop (pos rest.m)) (IsBehind ToTop (pos (size_of p.y + rest.m)))
+            (λ q h. omega (arith, linear, h, *ℤ_one (pos rest.m), *ℤ_one (pos (size_of p.y + rest.m)))) positions rest.behind,
+      );
+    }
+
+-- an area of which no edge holds p, and of whose shell's edges an even number is crossed, is exterior
+even_exterior :
+    (area : Area) (p : Point) → is_on_edges p (edges_of_rings (rings_of area)) ≡ false → is_odd p (edges_of area.shell) ≡ false
+    → location area p ≡ Exterior
+even_exterior area p off even =
+    let shell = (none_append (is_on_edge p) (edges_of area.shell) (edges_of_rings area.holes) off).0 in
+    λ i. location_by (off i) (not (shell i) && even i) (list_any (is_inside p) area.holes)
+
+-- an area with all positions behind a line
+module _ (area : Area) (shaped : IsAreaShaped area) (side : Side) (m : ℤ)
+    (all : AllByRecursion (IsBehind side m) (positions_of_ways (rings_of area)))
+  where
+    -- all its edges are behind
+    ends_behind : AllByRecursion (BothEnds (IsBehind side m)) (edges_of_rings (rings_of area))
+    ends_behind = both_of_ways (IsBehind side m) (rings_of area) all
+
+    -- where that tells the height of all ends, it is exterior
+    flat_exterior :
+        (p : Point) → pos 0 <ℤ distance side m p → (b : Bool) → ((a : Pt) → IsBehind side m a → is_low p (point_of a) ≡ b)
+        → location area p ≡ Exterior
+    flat_exterior p ahead b each =
+        even_exterior area p (off_all_behind side m p ahead (edges_of_rings (rings_of area)) ends_behind)
+        (flat_even p b (edges_of area.shell)
+        (all_map (BothEnds (IsBehind side m)) (BothEnds (λ a. is_low p (point_of a) ≡ b))
+        (λ e ends. (each e.a ends.0, each e.b ends.1)) (edges_of area.shell)
+        (all_split (BothEnds (IsBehind side m)) (edges_of area.shell) (edges_of_rings area.holes) ends_behind).0))
+
+    -- beyond the line the location stays
+    stays_beyond : (p q : Point) → pos 0 <ℤ distance side m p → pos 0 <ℤ distance side m q → location area p ≡ location area q
+    stays_beyond p q at_p at_q =
+        location_stays p q area shaped (record {
+          off = λ x on. off_all_behind side m x (ahead_between side m p q x at_p at_q on) (edges_of_rings (rings_of area)) ends_behind;
+        })
+
+-- above all it is exterior
+above_all :
+    (area : Area) → IsAreaShaped area → (m : ℤ) → AllByRecursion (IsBehind ToTop m) (positions_of_ways (rings_of area)) → (p : Point)
+    → pos 0 <ℤ distance ToTop m p → location area p ≡ Exterior
+above_all area shaped m all p ahead = flat_exterior area shaped ToTop m all p ahead true (low_behind m p ahead)
+
+-- the point straight above or below p that is just above a line
+abbrev raised : Point → ℤ → Point
+raised p m = record { x = p.x; y = (m +ℤ pos 1) *ℤ p.w; w = p.w; heavy = p.heavy }
+
+-- it is above the line
+raised_above : (p : Point) (m : ℤ) → pos 0 <ℤ distance ToTop m (raised p m)
+raised_above p m = omega (arith, linear, +ℤ-*ℤ m (pos 1) p.w, one-*ℤ p.w, p.heavy)
+
+-- where it is beyond a line as p is, p is exterior as it is
+by_raised :
+    (area : Area) → IsAreaShaped area → (side : Side) (m : ℤ) → AllByRecursion (IsBehind side m) (positions_of_ways (rings_of area))
+    → (p : Point) → pos 0 <ℤ distance side m p → ((n : ℤ) → pos 0 <ℤ distance side m (raised p n)) → location area p ≡ Exterior
+by_raised area shaped side m all p ahead raises = go (top_of (positions_of_ways (rings_of area)))
+  where
+    go : HasTop (positions_of_ways (rings_of area)) → location area p ≡ Exterior
+    go top =
+        let q = raised p (pos top.m) in
+        stays_beyond area shaped side m all p q ahead (raises (pos top.m))
+        ∙ above_all area shaped (pos top.m) top.behind q (raised_above p (pos top.m))
+
+-- so beyond the line the area is exterior on all four sides
 area_behind :
     (side : Side) (m : ℤ) (p : Point) → pos 0 <ℤ distance side m p → (area : Area) → IsAreaShaped area
     → AllByRecursion (IsBehind side m) (positions_of_ways (rings_of area)) → location area p ≡ Exterior
-area_behind side m p ahead area shaped all =
-    (λ i. location_by (off i) (not (shell_off i) && even i) (list_any (is_inside p) area.holes))
-  where
-    ends : AllByRecursion (BothEnds (IsBehind side m)) (edges_of_rings (rings_of area))
-    ends = both_of_ways (IsBehind side m) (rings_of area) all
-
-    off : is_on_edges p (edges_of_rings (rings_of area)) ≡ false
-    off = off_all_behind side m p ahead (edges_of_rings (rings_of area)) ends
-
-    shell_ends : AllByRecursion (BothEnds (IsBehind side m)) (edges_of area.shell)
-    shell_ends = (all_split (BothEnds (IsBehind side m)) (edges_of area.shell) (edges_of_rings area.holes) ends).0
-
-    shell_off : is_on_edges p (edges_of area.shell) ≡ false
-    shell_off = off_all_behind side m p ahead (edges_of area.shell) shell_ends
-
-    even : is_odd p (edges_of area.shell) ≡ false
-    even = even_behind side m p ahead area.shell shaped.shell.closed shell_ends
+area_behind ToTop m p ahead area shaped all = above_all area shaped m all p ahead
+area_behind ToBottom m p ahead area shaped all = flat_exterior area shaped ToBottom m all p ahead false (high_behind m p ahead)
+area_behind ToLeft m p ahead area shaped all = by_raised area shaped ToLeft m all p ahead (λ n. ahead)
+area_behind ToRight m p ahead area shaped all = by_raised area shaped ToRight m all p ahead (λ n. ahead)
 
 -- so the union covers nothing there
 pub uncovered_beyond :
