@@ -9,16 +9,14 @@ use Rattle.plane_laws.specs.Plane.{Point, shift, rise}
 use Rattle.plane_laws.specs.Directions.{Direction}
 use Rattle.plane_laws.specs.Along.{IsAway}
 use Rattle.plane_exact.specs.Places.{point_of}
-use Rattle.plane_exact.specs.Windows.{IsInWindow}
 use Rattle.plane_exact.specs.declared.point.Pt.{Pt}
 use Rattle.plane_exact.specs.declared.window.Window.{Window}
 use Rattle.point_set.specs.Lines.{is_at, is_at_some}
 use Rattle.near_laws.specs.Near.{IsInBox}
 use Rattle.plane_laws.proofs.Near.Away.{away_shift, away_rise}
-use Rattle.figure_laws.proofs.Lists.Places.{some_same}
 use Rattle.kind_laws.proofs.Location.EdgeRays.{all_map}
 use Rattle.near_laws.proofs.Beyond.Positions.{HasFarPosition}
-use Rattle.near_laws.proofs.Boxes.Sides.{Side, distance, edge_of, in_not_past, in_or_past}
+use Rattle.near_laws.proofs.Boxes.Sides.{none_inside, in_window, Side, distance, edge_of, in_not_past, in_or_past}
 use Rattle.near_laws.proofs.Boxes.Sides.Side.{ToLeft, ToRight, ToBottom, ToTop}
 use Rattle.near_laws.proofs.Envelopes.Past.{IsBehind}
 use Rattle.near_laws.proofs.Envelopes.Ways.{at_itself}
@@ -114,10 +112,7 @@ corner w positions far = by w far.out
     by : (box : Option Window) → ¬ IsInBox box (point_of far.p) → HasCorner box positions
     by None out =
         let r = farthest ToRight far.p positions in
-        record { side = ToRight; q = r.q; at = at_far r.q r.at; behind = r.behind; out = λ inside. no_box inside.is }
-      where
-        no_box : {z : Window} → ¬ (None ≡ Some z)
-        no_box e = cc
+        record { side = ToRight; q = r.q; at = at_far r.q r.at; behind = r.behind; out = λ inside. none_inside inside }
     by (Some box) out = elim (in_or_past box (point_of far.p)) [
       | inl h ↦ absurd (out (record { box = box; is = refl; within = h }))
       | inr h ↦
@@ -128,8 +123,7 @@ corner w positions far = by w far.out
             at = at_far r.q r.at;
             behind = r.behind;
             out = λ inside.
-                let in_q = in_not_past box (point_of r.q)
-                (subst (λ z. IsInWindow z (point_of r.q)) (sym (some_same inside.is)) inside.within) h.side in
+                let in_q = in_not_past box (point_of r.q) (in_window inside) h.side in
                 let past_q = beyond_more h.side (edge_of box h.side) far.p r.q h.beyond r.first in
                 omega (arith, linear, in_q, past_q);
           }

@@ -1,6 +1,6 @@
 -- An envelope that sticks out of a box has a position outside of the box.
 use Rattle.std.proofs.Common.{◌≡◌, ◌⊎◌, inl, inr, ◌≤ℤ◌, Bool, true, false, not, ◌||◌, ◌&&◌, List, [], ◌∷◌, ap, refl, sym}
-use Rattle.std.proofs.Common.{subst, ◌∙◌, arith}
+use Rattle.std.proofs.Common.{◌∙◌, arith}
 use Rattle.std.specs.Prelude.{Option, Some, None}
 use Rattle.std.specs.List.{AllByRecursion}
 use Rattle.std.proofs.lemmas.Bool.{true≢false, or_left, or_right}
@@ -17,8 +17,7 @@ use Rattle.plane_laws.proofs.Points.Same.{same_refl, same_sym, Decides-is_same_p
 use Rattle.plane_laws.proofs.Segments.Mixes.{start_on_segment, segment_same}
 use Rattle.plane_laws.proofs.Segments.On.{Decides-int_le}
 use Rattle.plane_exact.proofs.Laws.{in_window-mix}
-use Rattle.figure_laws.proofs.Lists.Places.{some_same}
-use Rattle.near_laws.proofs.Boxes.Sides.{in_box_decided}
+use Rattle.near_laws.proofs.Boxes.Sides.{none_inside, in_window, in_box_decided}
 use Rattle.near_laws.proofs.Envelopes.Ways.{at_itself}
 
 -- ---- a position outside of a box
@@ -64,7 +63,7 @@ all_in_window w (p ∷ positions) all m h = by (is_at m p) refl h (all_in_window
     by :
         (b : Bool) → is_at m p ≡ b → b || is_at_some m positions ≡ true → (is_at_some m positions ≡ true → IsInWindow w m) → IsInWindow w m
     by true at k rest =
-        at_in_window w p (subst (λ z. IsInWindow z (point_of p)) (sym (some_same all.0.is)) all.0.within) m at
+        at_in_window w p (in_window all.0) m at
     by false at k rest = rest k
 
 -- the test of being within, from what it tests
@@ -88,11 +87,8 @@ far_position positions (Some box) None is h = by positions is.0
     by (p ∷ others) some = record {
       p = p;
       at = or_left (is_at (point_of p) p) (is_at_some (point_of p) others) (at_itself p);
-      out = λ inside. no_box inside.is;
+      out = none_inside;
     }
-      where
-        no_box : {z : Window} → ¬ (None ≡ Some z)
-        no_box e = cc
 far_position positions (Some box) (Some w) is h = elim (all_or_far (Some w) positions) [
   | inl all ↦ absurd (true≢false (sym h ∙ ap not (test_of_within box w (is.1.least w (all_in_window w positions all)))))
   | inr far ↦ far

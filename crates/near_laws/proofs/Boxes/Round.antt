@@ -1,5 +1,5 @@
 -- Round each point there is a least box. So what isn't near a box isn't in it, and nearness is decided by any least box round the point.
-use Rattle.std.proofs.Common.{◌≡◌, ◌⊎◌, inl, inr, ◌<◌, ℤ, pos, ◌+ℤ◌, ◌-ℤ◌, ◌*ℤ◌, neg_ℤ, ◌≤ℤ◌, ◌<ℤ◌, unsigned_abs, sym, subst, arith}
+use Rattle.std.proofs.Common.{◌≡◌, ◌⊎◌, inl, inr, ◌<◌, ℤ, pos, ◌+ℤ◌, ◌-ℤ◌, ◌*ℤ◌, neg_ℤ, ◌≤ℤ◌, ◌<ℤ◌, unsigned_abs, arith}
 use Rattle.std.specs.Prelude.{◌↔◌, Option, Some, None}
 use Rattle.std.specs.Int.{int_max, int_min}
 use Rattle.std.proofs.lemmas.Int.{ints, quot-rem, rem_below}
@@ -14,8 +14,7 @@ use Rattle.near_laws.specs.Near.{IsInBox, IsNearBox, IsNearWindow}
 use Rattle.plane_laws.proofs.Points.Same.{same_refl}
 use Rattle.plane_exact.proofs.Laws.{common_point, least_of_point, low_at_most_high}
 use Rattle.figure_laws.proofs.Edges.Windows.{one_least_window}
-use Rattle.figure_laws.proofs.Lists.Places.{some_same}
-use Rattle.near_laws.proofs.Boxes.Sides.{within_holds}
+use Rattle.near_laws.proofs.Boxes.Sides.{none_inside, in_window, within_holds}
 
 -- the whole numbers next to a fraction
 record HasRange (x w : ℤ) : Type 0 where
@@ -92,11 +91,8 @@ in_is_near w v h =
 
 -- so what isn't near isn't in it
 pub far_is_out : (w : Option Window) (v : Point) → ¬ IsNearWindow w v → ¬ IsInBox w v
-far_is_out None v far inside = no_box inside.is
-  where
-    no_box : {box : Window} → ¬ (None ≡ Some box)
-    no_box e = cc
-far_is_out (Some w) v far inside = far (in_is_near w v (subst (λ z. IsInWindow z v) (sym (some_same inside.is)) inside.within))
+far_is_out None v far inside = none_inside inside
+far_is_out (Some w) v far inside = far (in_is_near w v (in_window inside))
 
 -- ---- nearness is decided
 -- a point is near a box exactly where any least box round it has a common point with the box

@@ -134,6 +134,17 @@ in_or_past w p = elim (each_side (λ side. distance side (edge_of w side) p)) [
 ]
 
 -- ---- a box, where there is one
+-- where there is none, nothing is in it
+pub none_inside : {p : Point} → ¬ IsInBox None p
+none_inside inside = no_box inside.is
+  where
+    no_box : {box : Window} → ¬ (None ≡ Some box)
+    no_box e = cc
+
+-- where there is one, what is in it is in that window
+pub in_window : {w : Window} {p : Point} → IsInBox (Some w) p → IsInWindow w p
+in_window {w} {p} inside = subst (λ z. IsInWindow z p) (sym (some_same inside.is)) inside.within
+
 -- near a point outside of the box all is outside of it
 pub record HasRoomOff (w : Option Window) (v : Point) : Type 0 where
   pub n : ℕ
@@ -146,7 +157,7 @@ past_room w v h = record {
   off = λ k far q near inside.
       let ahead : pos 0 <ℤ at_point side_past v = subst (λ z. pos 0 <ℤ z) (sym (past_is h.side (edge_of w h.side) v)) h.beyond in
       let at_q = positive_near side_past v q k ahead far near in
-      let in_q = in_not_past w q (subst (λ z. IsInWindow z q) (sym (some_same inside.is)) inside.within) h.side in
+      let in_q = in_not_past w q (in_window inside) h.side in
       omega (arith, linear, at_q, in_q, past_is h.side (edge_of w h.side) q);
 }
   where
@@ -155,10 +166,7 @@ past_room w v h = record {
 
 -- of any box, where there is one
 pub room_off : (w : Option Window) (v : Point) → ¬ IsInBox w v → HasRoomOff w v
-room_off None v out = record { n = 0; off = λ k far q near inside. no_box inside.is }
-  where
-    no_box : {box : Window} → ¬ (None ≡ Some box)
-    no_box e = cc
+room_off None v out = record { n = 0; off = λ k far q near inside. none_inside inside }
 room_off (Some w) v out = elim (in_or_past w v) [
   | inl h ↦ absurd (out (record { box = w; is = refl; within = h }))
   | inr h ↦ past_room w v h
@@ -166,14 +174,11 @@ room_off (Some w) v out = elim (in_or_past w v) [
 
 -- a point is in the box or it isn't
 pub in_box_decided : (w : Option Window) (p : Point) → IsInBox w p ⊎ (¬ IsInBox w p)
-in_box_decided None p = inr (λ inside. no_box inside.is)
-  where
-    no_box : {box : Window} → ¬ (None ≡ Some box)
-    no_box e = cc
+in_box_decided None p = inr none_inside
 in_box_decided (Some w) p = elim (in_or_past w p) [
   | inl h ↦ inl (record { box = w; is = refl; within = h })
   | inr h ↦ inr (λ inside.
-      let in_p = in_not_past w p (subst (λ z. IsInWindow z p) (sym (some_same inside.is)) inside.within) h.side in
+      let in_p = in_not_past w p (in_window inside) h.side in
       let past_p = h.beyond in
       omega (arith, linear, in_p, past_p))
 ]

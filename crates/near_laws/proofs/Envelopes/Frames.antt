@@ -1,10 +1,10 @@
 -- The envelope of a whole figure holds it; so each common part of two frames holds all that is in neither exterior.
-use Rattle.std.proofs.Common.{◌≡◌, ◌⊎◌, inl, inr, refl, sym, subst, arith}
+use Rattle.std.proofs.Common.{◌⊎◌, inl, inr, refl, arith}
 use Rattle.std.specs.Prelude.{Option, Some, None}
 use Rattle.std.proofs.lemmas.Int.{ints, clamps}
 use Rattle.im_matrix.specs.declared.Loc.TheVariants.{Exterior}
 use Rattle.plane_laws.specs.Plane.{Point}
-use Rattle.plane_exact.specs.Windows.{IsInWindow, IsWithin, join_boxes}
+use Rattle.plane_exact.specs.Windows.{IsWithin, join_boxes}
 use Rattle.plane_exact.specs.declared.window.Window.{Window}
 use Rattle.point_set.specs.declared.dim_loc.DimLoc.{DimLoc}
 use Rattle.point_set.specs.declared.dim_loc.DimLoc.TheVariants as kind
@@ -15,10 +15,9 @@ use Rattle.point_set.specs.Extents.{IsExtent}
 use Rattle.point_set.specs.Location.{IsKind, IsLocation}
 use Rattle.point_set.specs.Shape.{IsWellShaped}
 use Rattle.near_laws.specs.Near.{IsInBox, IsCommonPart, HoldsFigure, HoldsCommonPart, LawFrameHolds, join, frame}
-use Rattle.figure_laws.proofs.Lists.Places.{some_same}
 use Rattle.figure_laws.proofs.Points.Kinds.{interior_is_covered}
 use Rattle.kind_laws.proofs.Location.Decided.{kind_is_decided}
-use Rattle.near_laws.proofs.Boxes.Sides.{within_holds}
+use Rattle.near_laws.proofs.Boxes.Sides.{none_inside, in_window, within_holds}
 use Rattle.near_laws.proofs.Envelopes.Hold.{covered_in, line_in, point_in}
 
 -- ---- boxes that are joined
@@ -42,28 +41,22 @@ within_right box other = record {
 
 -- what is in the first box, where there is one, is in both together
 in_join_left : (u w : Option Window) (p : Point) → IsInBox u p → IsInBox (join u w) p
-in_join_left None w p inside = absurd (no_box inside.is)
-  where
-    no_box : {box : Window} → ¬ (None ≡ Some box)
-    no_box e = cc
+in_join_left None w p inside = absurd (none_inside inside)
 in_join_left (Some box) None p inside = inside
 in_join_left (Some box) (Some other) p inside = record {
   box = join_boxes box other;
   is = refl;
-  within = within_holds (within_left box other) p (subst (λ z. IsInWindow z p) (sym (some_same inside.is)) inside.within);
+  within = within_holds (within_left box other) p (in_window inside);
 }
 
 -- and what is in the second
 in_join_right : (u w : Option Window) (p : Point) → IsInBox w p → IsInBox (join u w) p
 in_join_right None w p inside = inside
-in_join_right (Some box) None p inside = absurd (no_box inside.is)
-  where
-    no_box : {other : Window} → ¬ (None ≡ Some other)
-    no_box e = cc
+in_join_right (Some box) None p inside = absurd (none_inside inside)
 in_join_right (Some box) (Some other) p inside = record {
   box = join_boxes box other;
   is = refl;
-  within = within_holds (within_right box other) p (subst (λ z. IsInWindow z p) (sym (some_same inside.is)) inside.within);
+  within = within_holds (within_right box other) p (in_window inside);
 }
 
 -- ---- one figure

@@ -6,7 +6,7 @@ use Rattle.std.specs.List.{AllByRecursion, list_all}
 use Rattle.std.proofs.lemmas.Bool.{true≢false, and_parts, or_from, or_left, or_right}
 use Rattle.plane_laws.specs.Plane.{Point}
 use Rattle.plane_exact.specs.Places.{point_of}
-use Rattle.plane_exact.specs.Windows.{IsInWindow, IsWithin}
+use Rattle.plane_exact.specs.Windows.{IsWithin}
 use Rattle.plane_exact.specs.declared.point.Pt.{Pt}
 use Rattle.plane_exact.specs.declared.window.Window.{Window}
 use Rattle.point_set.specs.declared.figure.Figure.{Figure}
@@ -25,7 +25,7 @@ use Rattle.plane_laws.proofs.Segments.On.{Decides-int_le}
 use Rattle.figure_laws.proofs.Lists.Places.{same_position}
 use Rattle.figure_laws.proofs.Points.Same.{count_at-same}
 use Rattle.kind_laws.proofs.Location.EdgeRays.{all_split}
-use Rattle.near_laws.proofs.Boxes.Sides.{Side, distance, within_holds}
+use Rattle.near_laws.proofs.Boxes.Sides.{none_inside, in_window, Side, distance, within_holds}
 use Rattle.near_laws.proofs.Envelopes.Past.{IsBehind, IsBeyondAll, in_envelope_or_past, uncovered_beyond, off_all_behind, none_at}
 use Rattle.near_laws.proofs.Envelopes.Ways.{both_of_way}
 
@@ -46,24 +46,17 @@ within_by_test inner outer h =
 
 -- what is in a box that doesn't stick out of another is in the other
 pub stays_in : (envelope w : Option Window) → sticks_out envelope w ≡ false → (p : Point) → IsInBox envelope p → IsInBox w p
-stays_in None w h p inside = absurd (no_box inside.is)
-  where
-    no_box : {box : Window} → ¬ (None ≡ Some box)
-    no_box e = cc
+stays_in None w h p inside = absurd (none_inside inside)
 stays_in (Some envelope) None h p inside = absurd (true≢false h)
 stays_in (Some envelope) (Some w) h p inside = record {
   box = w;
   is = refl;
-  within = within_holds (within_by_test envelope w (by (is_within envelope w) h)) p
-      (subst (λ z. IsInWindow z p) (sym (same inside.is)) inside.within);
+  within = within_holds (within_by_test envelope w (by (is_within envelope w) h)) p (in_window inside);
 }
   where
     by : (b : Bool) → not b ≡ false → b ≡ true
     by true e = refl
     by false e = absurd (true≢false e)
-
-    same : {x y : Window} → Some x ≡ Some y → x ≡ y
-    same e = cc
 
 -- so a point of the one that isn't in the other shows that it sticks out
 pub shows_out : (envelope w : Option Window) (p : Point) → IsInBox envelope p → ¬ IsInBox w p → sticks_out envelope w ≡ true

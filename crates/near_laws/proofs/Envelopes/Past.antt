@@ -37,7 +37,7 @@ use Rattle.side_laws.proofs.Edges.Strip.{positive_between}
 use Rattle.kind_laws.proofs.Location.EdgeRays.{all_split, all_map}
 use Rattle.near_laws.proofs.Boxes.Sides.{Side, past, distance, past_is, edge_of, in_not_past, in_or_past}
 use Rattle.near_laws.proofs.Boxes.Sides.Side.{ToLeft, ToRight, ToBottom, ToTop}
-use Rattle.near_laws.proofs.Envelopes.Ways.{BothEnds, both_of_ways, positions_append, all_at}
+use Rattle.near_laws.proofs.Envelopes.Ways.{BothEnds, both_of_ways, positions_append, all_by_points}
 
 -- a position isn't beyond a line
 abbrev pub IsBehind : Side → ℤ → Pt → Type 0
@@ -229,7 +229,7 @@ pub envelope_behind :
     (positions : List Pt) (box : Window) → IsEnvelope positions (Some box) → (side : Side)
     → AllByRecursion (IsBehind side (edge_of box side)) positions
 envelope_behind positions box envelope side =
-    all_at (IsBehind side (edge_of box side)) positions (λ q at. in_not_past box (point_of q) (envelope.1.holds (point_of q) at) side)
+    all_by_points (IsBehind side (edge_of box side)) positions (λ q at. in_not_past box (point_of q) (envelope.1.holds (point_of q) at) side)
 
 -- with no position all is behind every line, and every point is beyond some
 pub none_behind : (positions : List Pt) → positions ≡ [] → (side : Side) (m : ℤ) → AllByRecursion (IsBehind side m) positions

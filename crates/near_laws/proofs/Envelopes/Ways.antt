@@ -2,6 +2,7 @@
 use Rattle.std.proofs.Common.{◌≡◌, Bool, true, false, List, [], ◌∷◌, ◌++◌, ap, refl, sym, ◌∙◌}
 use Rattle.std.specs.List.{AllByRecursion}
 use Rattle.std.proofs.lemmas.Bool.{or_left, or_right}
+use Rattle.std.proofs.lemmas.List.{append_assoc}
 use Rattle.plane_exact.specs.Places.{point_of}
 use Rattle.plane_exact.specs.declared.point.Pt.{Pt}
 use Rattle.plane_exact.specs.declared.point.Seg.{Seg}
@@ -44,26 +45,21 @@ both_of_ways P (way ∷ ways) all =
     let both = all_split P way (positions_of_ways ways) all in
     all_joined (BothEnds P) (edges_of way) (edges_of_rings ways) (both_of_way P way both.0) (both_of_ways P ways both.1)
 
--- two rows of positions, one after the other
-positions_assoc : (xs ys zs : List Pt) → (xs ++ ys) ++ zs ≡ xs ++ (ys ++ zs)
-positions_assoc [] ys zs = refl
-positions_assoc (x ∷ xs) ys zs = ap (λ rest. x ∷ rest) (positions_assoc xs ys zs)
-
 -- positions of ways in two lists
 pub positions_append : (xs ys : List (List Pt)) → positions_of_ways (xs ++ ys) ≡ positions_of_ways xs ++ positions_of_ways ys
 positions_append [] ys = refl
 positions_append (x ∷ xs) ys =
-    ap (λ rest. x ++ rest) (positions_append xs ys) ∙ sym (positions_assoc x (positions_of_ways xs) (positions_of_ways ys))
+    ap (λ rest. x ++ rest) (positions_append xs ys) ∙ sym (append_assoc x (positions_of_ways xs) (positions_of_ways ys))
 
 -- a position is at itself
 pub at_itself : (p : Pt) → is_at (point_of p) p ≡ true
 at_itself p = (Decides-is_same_point (point_of p) (point_of p)).1 (same_refl (point_of p))
 
 -- what holds of each position that a point of a list is at holds of all
-pub all_at :
+pub all_by_points :
     (P : Pt → Type 0) (positions : List Pt) → ((p : Pt) → is_at_some (point_of p) positions ≡ true → P p) → AllByRecursion P positions
-all_at P [] each = tt
-all_at P (p ∷ positions) each = (
+all_by_points P [] each = tt
+all_by_points P (p ∷ positions) each = (
   each p (or_left (is_at (point_of p) p) (is_at_some (point_of p) positions) (at_itself p)),
-  all_at P positions (λ q h. each q (or_right (is_at (point_of q) p) (is_at_some (point_of q) positions) h)),
+  all_by_points P positions (λ q h. each q (or_right (is_at (point_of q) p) (is_at_some (point_of q) positions) h)),
 )
