@@ -67,8 +67,7 @@ module _ (a b : Figure) (valid : AreValid a b) (rule : Rule) (x : Extent) (is : 
     -- at the ray before a bare sector a segment of the boundary is shown
     by_sector :
         (rays : List Dir) → ¬ (rays ≡ [])
-        → ((i : ℕ) (ray : Dir) → IsAtPlace rays i ray
-        → IsAlongAreas a (point_of c.q) (direction_of ray))
+        → ((i : ℕ) (ray : Dir) → IsAtPlace rays i ray → IsAlongAreas a (point_of c.q) (direction_of ray))
         → (i : ℕ) (d : Direction) → IsInSector rays i d → IsSectorAlike a (point_of c.q) rays i false
         → HoldsSegment (IsInCell a b rule (cell Boundary Exterior))
     by_sector [] some runs i d within bare = absurd (some refl)

@@ -96,7 +96,7 @@ at_last m p [] h = or_left (is_at m p) false h
 at_last m p (q ∷ others) h = or_right (is_at m p) (is_at_some m (q ∷ others)) (at_last m q others h)
 
 -- a point at an end of a line is on one of its edges
-pub end_on : (m : Point) (line : List Pt) → is_at_some m (ends_of line) ≡ true → is_on_edges m (edges_of line) ≡ true
+end_on : (m : Point) (line : List Pt) → is_at_some m (ends_of line) ≡ true → is_on_edges m (edges_of line) ≡ true
 end_on m [] h = absurd (true≢false (sym h))
 end_on m (p ∷ others) h = by (is_still (p ∷ others)) refl h
   where

@@ -40,7 +40,7 @@ module _ (a b : Figure) (valid : AreValid a b) (rule : Rule) (x : Extent) (is : 
     (holds : HoldsCommonPart a b rule w)
   where
     -- outside of the common part, what isn't exterior to the first is exterior to the second
-    pub cell_out :
+    cell_out :
         (q : Point) → ¬ IsInBox w q → (part : Loc) → part ≢ Exterior → IsLocation a rule q part → IsInCell a b rule (cell part Exterior) q
     cell_out q out part some at = by (holds q)
       where

@@ -62,8 +62,7 @@ all_in_window w (p ∷ positions) all m h = by (is_at m p) refl h (all_in_window
   where
     by :
         (b : Bool) → is_at m p ≡ b → b || is_at_some m positions ≡ true → (is_at_some m positions ≡ true → IsInWindow w m) → IsInWindow w m
-    by true at k rest =
-        at_in_window w p (in_window all.0) m at
+    by true at k rest = at_in_window w p (in_window all.0) m at
     by false at k rest = rest k
 
 -- the test of being within, from what it tests
@@ -75,7 +74,7 @@ test_of_within inner outer h =
     both : {b c : Bool} → b ≡ true → c ≡ true → b && c ≡ true
     both h k = (λ i. h i && k i)
 
--- a envelope that sticks out has a position outside
+-- so an envelope that sticks out has a position outside
 pub far_position :
     (positions : List Pt) (envelope w : Option Window) → IsEnvelope positions envelope → sticks_out envelope w ≡ true
     → HasFarPosition w positions

@@ -17,6 +17,7 @@ use Rattle.point_set.specs.declared.rule.Rule.{Rule}
 use Rattle.point_set.specs.Dimension.{HoldsTriangle, ShowsDimension}
 use Rattle.point_set.specs.Location.{IsLocation, IsAreaInterior}
 use Rattle.point_set.specs.Relation.{IsInCell}
+use Rattle.point_set.specs.Shape.{IsWellShaped}
 use Rattle.point_set.specs.Nodes.{positions_of_ways, rings_of_areas}
 use Rattle.point_set.specs.Visible.{AreValid}
 use Rattle.point_set.specs.declared.extent.Extent.{Extent}
@@ -50,19 +51,22 @@ first_sector : (rays : List Dir) → 0 < sectors_of rays
 first_sector [] = omega arith
 first_sector (ray ∷ rays) = omega arith
 
+-- near a point interior to the areas all is interior
+interior_along :
+    (f : Figure) → IsWellShaped f → (rule : Rule) (t : Point) → IsAreaInterior f t → (d : Direction)
+    → HoldsAlong (λ p. IsLocation f rule p Interior) t d
+interior_along f shaped rule t inside d =
+    let inner = interior_is_open f shaped t inside d in
+    record {
+      from = inner.from;
+      holds = λ n far p away.
+          record { decided_by = kind.AreaInterior; decides = inner.holds n far p away; gives = refl };
+    }
+
+-- a figure and another, and the areas that the first has outside of the common part
 module _ (a b : Figure) (valid : AreValid a b) (rule : Rule) (x : Extent) (is : IsExtent a rule x) (w : Option Window)
     (holds : HoldsCommonPart a b rule w)
   where
-    -- near a point interior to the areas all is interior
-    interior_along : (t : Point) → IsAreaInterior a t → (d : Direction) → HoldsAlong (λ p. IsLocation a rule p Interior) t d
-    interior_along t inside d =
-        let inner = interior_is_open a valid.a_shaped t inside d in
-        record {
-          from = inner.from;
-          holds = λ n far p away.
-              record { decided_by = kind.AreaInterior; decides = inner.holds n far p away; gives = refl };
-        }
-
     -- where areas stick out, a triangle of the interior is shown: in a sector at a point inside one of them
     areas_shown : sticks_out x.areas w ≡ true → HoldsTriangle (IsInCell a b rule (cell Interior Exterior))
     areas_shown some =
@@ -87,7 +91,7 @@ module _ (a b : Figure) (valid : AreValid a b) (rule : Rule) (x : Extent) (is : 
         germ : IsPairGerm a b rule t.t m.d (cell Interior Exterior)
         germ =
             germ_out a b valid rule x is w holds t.t t.out m.d Interior (λ e. cc)
-            (interior_along t.t (interior_of_one a valid.a_shaped h.k h.area h.is t.t t.inside) m.d)
+            (interior_along a valid.a_shaped rule t.t (interior_of_one a valid.a_shaped h.k h.area h.is t.t t.inside) m.d)
 
 -- ---- the parts of one figure
 -- the interior

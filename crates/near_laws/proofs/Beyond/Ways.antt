@@ -52,7 +52,7 @@ leads_to_end e v way = by way.forward way.toward
     by true c = inr c
 
 -- along it, from a point of the edge, points are on the edge
-pub along_edge_way : (e : Seg) (v : Point) → is_on_edge v e ≡ true → (way : HasEndWay e v) → HoldsAlong (λ p. is_on_edge p e ≡ true) v way.d
+along_edge_way : (e : Seg) (v : Point) → is_on_edge v e ≡ true → (way : HasEndWay e v) → HoldsAlong (λ p. is_on_edge p e ≡ true) v way.d
 along_edge_way e v on way =
     let end = point_of (far_end way.forward e) in
     edge_along v way.d e on end (on_far way.forward e) ((Decides-is_toward v way.d end).1 way.toward)

@@ -89,7 +89,7 @@ in_not_past w p h ToBottom = let k = h.bottom in omega (arith, linear, k)
 in_not_past w p h ToTop = let k = h.top in omega (arith, linear, k)
 
 -- and what is beyond none is in it
-pub in_by_sides : (w : Window) (p : Point) → ((side : Side) → distance side (edge_of w side) p ≤ℤ pos 0) → IsInWindow w p
+in_by_sides : (w : Window) (p : Point) → ((side : Side) → distance side (edge_of w side) p ≤ℤ pos 0) → IsInWindow w p
 in_by_sides w p h =
     let left = h ToLeft in
     let right = h ToRight in

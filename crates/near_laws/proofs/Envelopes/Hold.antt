@@ -94,7 +94,7 @@ no_edge_after m p (q ∷ others) h =
     ∙ no_edge_after m q others (subst (λ z. list_all (is_same_position z) others ≡ true) (same_position p q both.0) both.1)
 
 -- so no point is on one
-pub still_off : (m : Point) (line : List Pt) → is_still line ≡ true → is_on_edges m (edges_of line) ≡ false
+still_off : (m : Point) (line : List Pt) → is_still line ≡ true → is_on_edges m (edges_of line) ≡ false
 still_off m [] h = refl
 still_off m (p ∷ others) h = no_edge_after m p others h
 

@@ -224,15 +224,15 @@ none_at side m p ahead (q ∷ positions) all =
     apart at = true≢false (sym (on_spot p q at) ∙ off_behind side m p ahead (record { a = q; b = q }) (all.0, all.0))
 
 -- ---- envelopes
--- all positions are behind each side of their box
-pub envelope_behind :
+-- all positions are behind each side of their envelope
+envelope_behind :
     (positions : List Pt) (box : Window) → IsEnvelope positions (Some box) → (side : Side)
     → AllByRecursion (IsBehind side (edge_of box side)) positions
 envelope_behind positions box envelope side =
     all_by_points (IsBehind side (edge_of box side)) positions (λ q at. in_not_past box (point_of q) (envelope.1.holds (point_of q) at) side)
 
 -- with no position all is behind every line, and every point is beyond some
-pub none_behind : (positions : List Pt) → positions ≡ [] → (side : Side) (m : ℤ) → AllByRecursion (IsBehind side m) positions
+none_behind : (positions : List Pt) → positions ≡ [] → (side : Side) (m : ℤ) → AllByRecursion (IsBehind side m) positions
 none_behind positions none side m = subst (AllByRecursion (IsBehind side m)) (sym none) tt
 
 -- a point is in the envelope, or beyond a line that has all the positions behind it

@@ -95,7 +95,7 @@ no_bound f rule q h bound = true≢false (sym (bound_at_end rule (ends_of_lines 
 
 -- ---- one figure, at a point outside of a box: what the envelopes tell is at least what is there
 -- the part is the exterior, or the envelopes tell at least a rank of it
-abbrev pub IsTold : Extent → Option Window → ℕ → Loc → Type 0
+abbrev IsTold : Extent → Option Window → ℕ → Loc → Type 0
 IsTold x w n part = (part ≡ Exterior) ⊎ (n ≤ rank (beyond x w part))
 
 module _ (f : Figure) (shaped : IsWellShaped f) (rule : Rule) (x : Extent) (is : IsExtent f rule x) (w : Option Window) (q : Point)
@@ -180,7 +180,7 @@ told_together x y w n few Boundary Boundary h k (inl e) = cc
 told_together x y w n few Boundary Boundary h k (inr e) = cc
 
 -- outside of the box one of the parts is the exterior
-pub one_exterior :
+one_exterior :
     (a b : Figure) (rule : Rule) (w : Option Window) → HoldsCommonPart a b rule w → (c : Cell) (q : Point) → ¬ IsInBox w q
     → IsInCell a b rule c q → (c.a ≡ Exterior) ⊎ (c.b ≡ Exterior)
 one_exterior a b rule w holds c q out at = by (holds q)
