@@ -229,7 +229,8 @@ envelope_behind :
     (positions : List Pt) (box : Window) → IsEnvelope positions (Some box) → (side : Side)
     → AllByRecursion (IsBehind side (edge_of box side)) positions
 envelope_behind positions box envelope side =
-    all_by_points (IsBehind side (edge_of box side)) positions (λ q at. in_not_past box (point_of q) (envelope.1.holds (point_of q) at) side)
+    all_by_points (IsBehind side (edge_of box side)) positions
+    (λ q at. in_not_past box (point_of q) (envelope.1.holds (point_of q) at) side)
 
 -- with no position all is behind every line, and every point is beyond some
 none_behind : (positions : List Pt) → positions ≡ [] → (side : Side) (m : ℤ) → AllByRecursion (IsBehind side m) positions
