@@ -1,4 +1,4 @@
--- The near nodes and the envelopes decide the cells, where the few nodes show what all nodes show.
+-- The near nodes and the envelopes decide the cells.
 use Rattle.std.proofs.Common.{◌≡◌, ◌≤◌, ◌⊎◌, inl, inr, ℕ, refl, sym, subst, arith}
 use Rattle.std.specs.Prelude.{Option}
 use Rattle.im_matrix.specs.Cells.{rank, cell, dimension_at, start_dimension}
@@ -17,10 +17,11 @@ use Rattle.point_set.specs.Relation.{IsInCell}
 use Rattle.point_set.specs.Samples.{IsSample, IsGreatest}
 use Rattle.point_set.specs.Visible.{AreValid}
 use Rattle.cell_laws.specs.Decided.{AreDecidedBySamples}
-use Rattle.few_laws.specs.Few.{LawFew}
 use Rattle.near_laws.specs.Near.{IsNearWindow, IsNearNode, LawNearDecide, beyond_cell, beyond_parts}
 use Rattle.figure_laws.proofs.Sets.Dimensions.{segment_of_triangle, point_of_segment}
-use Rattle.cell_laws.proofs.Cells.Matrix.{decided_by_samples}
+use Rattle.cell_laws.proofs.Cells.Matrix.{decided_by_samples, same_rank}
+use Rattle.few_laws.proofs.Nodes.Crossings.{few_is_node}
+use Rattle.few_laws.proofs.Seen.Few.{law_few_holds}
 use Rattle.near_laws.proofs.Beyond.Shown.{beyond_is_there}
 use Rattle.near_laws.proofs.Boxes.Round.{near_window_decided}
 use Rattle.near_laws.proofs.Far.Shows.{far_shows_no_more}
@@ -42,10 +43,6 @@ shown_at_most Set Zero One p is = omega arith
 shown_at_most Set Zero Zero p is = omega arith
 shown_at_most Set Zero Empty p is = absurd (is p)
 
--- dimensions of one rank are one
-same_rank : (d e : Dim) → rank d ≤ rank e → rank e ≤ rank d → d ≡ e
-same_rank d e h k = grind arith
-
 -- a greatest dimension has at most a rank that bounds each of which it is the greatest
 greatest_at_most : (Is : Dim → Type 0) (d : Dim) (n : ℕ) → IsGreatest Is d → ((e : Dim) → Is e → rank e ≤ n) → rank d ≤ n
 greatest_at_most Is Empty n g each = omega arith
@@ -65,11 +62,10 @@ start_told x y w Interior Boundary = omega arith
 start_told x y w Boundary Interior = omega arith
 start_told x y w Boundary Boundary = omega arith
 
--- ---- two figures of which the few nodes show what all nodes show
+-- ---- two figures
 pub near_decide :
-    (a b : Figure) → AreValid a b → (rule : Rule) → LawFew a b rule → ((v : Point) → IsFewNode a b v → IsNode a b v)
-    → LawNearDecide a b rule
-near_decide a b valid rule few few_is_node x y is_x is_y w holds m greatest c =
+    (a b : Figure) → AreValid a b → (rule : Rule) → LawNearDecide a b rule
+near_decide a b valid rule x y is_x is_y w holds m greatest c =
     subst (IsDimension (IsInCell a b rule c)) (same_rank (dimension_at all.matrix c) (dimension_at m c) below above) (all.of_points c)
   where
     all : AreDecidedBySamples a b rule
@@ -88,11 +84,11 @@ near_decide a b valid rule few few_is_node x y is_x is_y w holds m greatest c =
             (subst (ShowsDimension (IsInCell a b rule c)) (sym e) (beyond_is_there a b valid rule x y is_x is_y w holds c))
             (all.of_points c)
         each d (inr s) =
-            (all.of_samples c).most d (inr (record { v = s.v; is_node = few_is_node s.v s.is_node.0; sample = s.sample }))
+            (all.of_samples c).most d (inr (record { v = s.v; is_node = few_is_node s.is_node.0; sample = s.sample }))
 
     -- the few nodes show no more: the near ones by what m is, the far ones by what the envelopes tell
     below : rank (dimension_at all.matrix c) ≤ rank (dimension_at m c)
-    below = greatest_at_most Seen (dimension_at all.matrix c) (rank (dimension_at m c)) ((few all.matrix).1 all.of_samples c) each
+    below = greatest_at_most Seen (dimension_at all.matrix c) (rank (dimension_at m c)) ((law_few_holds a b valid rule all.matrix).1 all.of_samples c) each
       where
         Seen : Dim → Type 0
         Seen d = (d ≡ start_dimension c) ⊎ IsSample (IsFewNode a b) a b rule c d
