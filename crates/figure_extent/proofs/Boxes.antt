@@ -1,5 +1,6 @@
--- The envelope of no position, of one, and of two lists of positions together.
-use Rattle.std.proofs.Common.{◌≡◌, ◌≢◌, ℤ, ◌*ℤ◌, ◌≤ℤ◌, ◌⊎◌, inl, inr, Bool, true, false, ◌||◌, Some, List, [], ◌∷◌, ◌++◌, refl, sym, ap, ◌∙◌, arith}
+-- The envelope of one position, and that of two lists of positions together.
+use Rattle.std.proofs.Common.{◌≡◌, ◌≢◌, ℤ, ◌*ℤ◌, ◌≤ℤ◌, ◌⊎◌, inl, inr, Bool, true, false, ◌||◌, Some, List, [], ◌∷◌, ◌++◌, refl, sym, ap, ◌∙◌, subst, arith}
+use Rattle.std.specs.Int.{int_max, int_min}
 use Rattle.std.proofs.Math.Bool.{or-false}
 use Rattle.std.proofs.lemmas.Bool.{or_right}
 use Rattle.std.proofs.lemmas.Int.{ints, clamps}
@@ -59,17 +60,18 @@ joined_first box other p h =
       top = ≤ℤ_trans h.top (scaled box.high_y outer.high_y (omega (arith, ints, clamps)));
     }
 
--- and what the second holds
+-- which of the boxes is the first doesn't matter
+joined_swapped : (box other : Window) → join_boxes box other ≡ join_boxes other box
+joined_swapped box other =
+    let low_x : int_min box.low_x other.low_x ≡ int_min other.low_x box.low_x = omega (arith, ints, clamps) in
+    let low_y : int_min box.low_y other.low_y ≡ int_min other.low_y box.low_y = omega (arith, ints, clamps) in
+    let high_x : int_max box.high_x other.high_x ≡ int_max other.high_x box.high_x = omega (arith, ints, clamps) in
+    let high_y : int_max box.high_y other.high_y ≡ int_max other.high_y box.high_y = omega (arith, ints, clamps) in
+    λ i. record { low_x = low_x i; low_y = low_y i; high_x = high_x i; high_y = high_y i }
+
+-- so it holds what the second holds
 joined_second : (box other : Window) (p : Point) → IsInWindow other p → IsInWindow (join_boxes box other) p
-joined_second box other p h =
-    let scaled = λ (a b : ℤ) (e : a ≤ℤ b). scale_≤ℤ_right (<ℤ_weaken p.heavy) e in
-    let outer = join_boxes box other in
-    record {
-      left = ≤ℤ_trans (scaled outer.low_x other.low_x (omega (arith, ints, clamps))) h.left;
-      right = ≤ℤ_trans h.right (scaled other.high_x outer.high_x (omega (arith, ints, clamps)));
-      bottom = ≤ℤ_trans (scaled outer.low_y other.low_y (omega (arith, ints, clamps))) h.bottom;
-      top = ≤ℤ_trans h.top (scaled other.high_y outer.high_y (omega (arith, ints, clamps)));
-    }
+joined_second box other p h = subst (λ (w : Window). IsInWindow w p) (joined_swapped other box) (joined_first other box p h)
 
 -- a box round both boxes is round the joined one
 joined_least : (box other outer : Window) → IsWithin box outer → IsWithin other outer → IsWithin (join_boxes box other) outer

@@ -1,4 +1,4 @@
--- The positions of several ways, and of lines that a test keeps; the ends of lines.
+-- The positions of ways and of lines that a test keeps, and the ends of lines that are boundary, one after the other.
 use Rattle.std.proofs.Common.{◌≡◌, ℕ, Option, Some, Bool, true, false, List, [], ◌∷◌, ◌++◌, cond, refl, sym, ap, ◌∙◌, subst}
 use Rattle.std.proofs.lemmas.List.{append-nil, append_assoc}
 use Rattle.std.proofs.lemmas.List.Elements.{All-head, All-tail}
@@ -63,8 +63,8 @@ ends_append rule all (p ∷ ends) others =
 
 -- with a line end more, where it is boundary
 pub one_end :
-    (rule : Rule) (all : List Pt) (p : Pt) (count : ℕ) (more : Bool) (here : Window) (old new : Option Window) → count ≡ count_at (point_of p) all
-    → more ≡ is_boundary_count rule count
+    (rule : Rule) (all : List Pt) (p : Pt) (count : ℕ) (more : Bool) (here : Window) (old new : Option Window)
+    → count ≡ count_at (point_of p) all → more ≡ is_boundary_count rule count
     → ((xs ys : List Pt) → IsEnvelope xs old → IsEnvelope ys (Some here) → IsEnvelope (xs ++ keep_if more ys []) new)
     → IsEnvelope (p ∷ []) (Some here) → (xs : List Pt) → IsEnvelope xs old → IsEnvelope (xs ++ boundary_ends rule all (p ∷ [])) new
 one_end rule all p count more here old new counted tested joined own xs h =
@@ -75,8 +75,7 @@ one_end rule all p count more here old new counted tested joined own xs h =
 pub ends_in_limit : (line : List Pt) (first last : Pt) → IsWayInLimit line → ends_of line ≡ first ∷ last ∷ []
     → IsInLimit first × IsInLimit last
 ends_in_limit [] first last all e = cc
-ends_in_limit (p ∷ others) first last all e =
-    by_test (is_still (p ∷ others)) e
+ends_in_limit (p ∷ others) first last all e = by_test (is_still (p ∷ others)) e
   where
     last_in : (q : Pt) (rest : List Pt) → IsInLimit q → IsWayInLimit rest → IsInLimit (last_after q rest)
     last_in q [] here h = here

@@ -7,7 +7,8 @@ use Rattle.point_set.specs.Extents.{IsEnvelope}
 
 -- The envelope is that of the positions of the items before a place: those of the items from there on complete them to those of
 -- all items.
-pub record IsEnvelopeSoFar {X : Type 0} (positions : List X → List Pt) (items : List X) (place : ℕ) (envelope : Option Window) : Type 0 where
+pub record IsEnvelopeSoFar {X : Type 0} (positions : List X → List Pt) (items : List X) (place : ℕ) (envelope : Option Window)
+    : Type 0 where
   pub done : List Pt
   pub whole : (done ++ positions (drop place items)) ≡ positions items
   pub is : IsEnvelope done envelope

@@ -27,5 +27,7 @@ loop-line-preserved c =
           (λ xs h.
           subst (λ (new : Option Window). IsEnvelope (xs ++ line) new) (sym w.envelope-is)
           (w.joined-envelope.ensures.envelope xs line h w.of_way.ensures.envelope))
-      | else-not-is_still w ↦ left_out keeps line old c.if-not-is_still.envelope (ap not (sym c.is_still.ensures.still ∙ w.if-not-is_still.false)) w.envelope-is
+      | else-not-is_still w ↦
+          left_out keeps line old c.if-not-is_still.envelope (ap not (sym c.is_still.ensures.still ∙ w.if-not-is_still.false))
+          w.envelope-is
     ]) c.loop-line.invariant

@@ -6,4 +6,5 @@ use Rattle.figure_extent.proofs.SoFar.{IsEnvelopeSoFar}
 use Rattle.figure_extent.proofs.ends.EndEnvelopes.of.Given as goal
 
 abbrev pub invariant-loop-line : goal.invariant-loop-line
-invariant-loop-line l = (rule : Rule) → IsEnvelopeSoFar (boundary_ends_of rule l.figure) l.figure.lines l.line-index (ends_under rule l.envelopes)
+invariant-loop-line l = (rule : Rule)
+    → IsEnvelopeSoFar (boundary_ends_of rule l.figure) l.figure.lines l.line-index (ends_under rule l.envelopes)

@@ -22,6 +22,7 @@ returns-in-Some c = record {
       let one = c.with_end.ensures.more f are rule xs h in
       subst (λ (zs : List Pt). IsEnvelope zs (ends_under rule new))
       (append_assoc xs (boundary_ends rule all first) (boundary_ends rule all last)
-      ∙ ap (λ (ends : List Pt). xs ++ ends) (sym (ends_append rule all first last) ∙ ap (boundary_ends rule all) (sym c.in-Some.ensures.ends)))
+      ∙ ap (λ (ends : List Pt). xs ++ ends) (sym (ends_append rule all first last))
+      ∙ ap (λ (ends : List Pt). xs ++ boundary_ends rule all ends) (sym c.in-Some.ensures.ends))
       (c.with_end-in-Some.ensures.more f are rule (xs ++ boundary_ends rule all first) one);
 }
