@@ -96,8 +96,8 @@ impl EndCounts {
     }
 }
 
-/// The first and the last position of a line, unless its positions are all equal.
-fn two_ends(line: &Path) -> Option<(Pt, Pt)>
+/// The first and the last position of a line, unless its positions are all equal. Takes no memory.
+pub fn two_ends(line: &Path) -> Option<(Pt, Pt)>
     ensures ends { MatchOption result (ends_of line.now ≡ []) (λ ends. ends_of line.now ≡ ends.0 ∷ ends.1 ∷ []) }
 {
     let (first, others) = line.as_slice().split_first()?;

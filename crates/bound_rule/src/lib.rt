@@ -10,5 +10,6 @@ mod table;
 #[cfg(test)]
 mod tests;
 
+pub use ends::two_ends;
 pub use rules::in_boundary;
 pub use table::EndTable;

@@ -4,21 +4,23 @@ use crate::nearby::Nearby;
 use crate::places::IndexedRows;
 use area_locator::AreaIndex;
 use bound_rule::EndTable;
+use figure_extent::Extents;
 use im_matrix::Loc;
 use plane_exact::{ItemList, NoMemory, Node, PlaceList, Window};
-use point_set::{DimLoc, Edge, EdgeId, Rule, Target, Valid};
+use point_set::{DimLoc, Edge, EdgeId, Extent, Rule, Target, Valid};
 use ring_sides::edges_of;
 use std::alloc::Global;
 use std::marker::Model;
 
-/// A valid figure with its edges, its line ends, an index that finds edges in a window, and one of each area, by which nodes
-/// are located in it.
+/// A valid figure with its edges, its line ends, its envelopes, an index that finds edges in a window, and one of each area,
+/// by which nodes are located in it.
 #[derive(Drop)]
 pub struct Plain<'a> {
     valid: &'a Valid,
     edges: IndexedRows,
     indexes: ItemList<AreaIndex>,
     ends: EndTable,
+    extents: Extents,
     near: PlaceList,
     alloc: Global,
 }
@@ -28,9 +30,15 @@ impl<'a> Model for Plain<'a> {
 
     ghost Value = { SeenPlain };
 
-    ghost view = { λ p. record { figure = p.valid.now; rows = p.edges.rows; areas = p.indexes; ends = p.ends } };
+    ghost view = { λ p. record { figure = p.valid.now; rows = p.edges.rows; areas = p.indexes; ends = p.ends; extents = p.extents } };
 
-    ghost invariant = { λ p. IsPlain (record { figure = p.valid.now; rows = p.edges.rows; areas = p.indexes; ends = p.ends }) };
+    ghost invariant = { λ p. IsPlain (record {
+      figure = p.valid.now;
+      rows = p.edges.rows;
+      areas = p.indexes;
+      ends = p.ends;
+      extents = p.extents;
+    }) };
 }
 
 impl<'a> Plain<'a> {
@@ -38,18 +46,21 @@ impl<'a> Plain<'a> {
     ghost use Rattle.plane_exact.specs.NodePoints.{point_at};
     ghost use Rattle.point_set.specs.Cover.{IsAdjacent};
 
-    /// The figure with its edges and line ends.
+    /// The figure with its edges, its line ends and its envelopes.
     ///
     /// # Errors
     /// `NoMemory`.
     pub fn new(alloc: Global, v: &'a Valid) -> Result<Plain<'a>, NoMemory>
         ensures figure { IfOk result (λ plain. plain.figure ≡ v.now) }
     {
+        let ends = EndTable::build(alloc, v)?;
+        let extents = Extents::of(v, &ends);
         Ok(Plain {
             valid: v,
             edges: IndexedRows::new(alloc, edges_of(alloc, v)?)?,
             indexes: indexes_of(alloc, v)?,
-            ends: EndTable::build(alloc, v)?,
+            ends,
+            extents,
             near: PlaceList::new(alloc),
             alloc,
         })
@@ -117,5 +128,9 @@ impl Target for Plain<'_> {
 
     fn edges_in(&mut self, w: Window, out: &mut PlaceList) -> Result<(), NoMemory> {
         self.edges.places_in(w, out)
+    }
+
+    fn extent(&self, rule: Rule) -> Extent {
+        self.extents.extent(rule)
     }
 }

@@ -1,0 +1,11 @@
+//! The envelopes of a figure: the least boxes of its rings, of its lines, of its points, and of the line ends that are boundary.
+#![tactic(auto)]
+
+mod ends;
+mod envelopes;
+mod extents;
+mod parts;
+#[cfg(test)]
+mod tests;
+
+pub use extents::Extents;
