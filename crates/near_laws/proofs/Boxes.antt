@@ -1,0 +1,3 @@
+-- Boxes round points and round edges.
+pub mod RoundBox
+pub mod NearEdges
