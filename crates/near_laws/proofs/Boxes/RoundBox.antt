@@ -5,7 +5,7 @@ use Rattle.std.proofs.lemmas.Int.{ints, quot-rem, rem_below}
 use Rattle.std.specs.Int.RustNames.{int_div, int_rem}
 use Rattle.whole_algebra.proofs.Laws.{linear, +ℤ-*ℤ, -ℤ-*ℤ, one-*ℤ}
 use Rattle.whole_algebra.proofs.Signs.{by_sign, <ℤ_weaken, ≤ℤ_trans, scale_≤ℤ_right}
-use Rattle.plane_laws.proofs.Points.Same.{same_refl}
+use Rattle.plane_laws.proofs.Points.Same.{same_refl, same_sym, same_trans}
 use Rattle.plane_laws.specs.Plane.{Point, IsSamePoint}
 use Rattle.plane_exact.proofs.Laws.{least_of_point}
 use Rattle.plane_exact.specs.Nodes.{IsRange}
@@ -34,6 +34,17 @@ near_by_least w v box least = (λ near. common near, λ h. record { box = box; l
       here = within_holds (near.least.least box least.holds) near.common.point near.common.here;
       there = near.common.there;
     }
+
+-- a point that is the same as a near one is near
+pub near_same : (w : Window) {v p : Point} → IsSamePoint v p → IsNearBox w p → IsNearBox w v
+near_same w same near = record {
+  box = near.box;
+  least = record {
+    holds = λ q h. near.least.holds q (same_trans (same_sym same) h);
+    least = λ other all. near.least.least other (λ q h. all q (same_trans same h));
+  };
+  common = near.common;
+}
 
 -- the whole numbers next to a fraction
 record HasRange (x w : ℤ) : Type 0 where
