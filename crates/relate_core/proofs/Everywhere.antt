@@ -1,8 +1,6 @@
 -- The box of all coordinates within the limit: each of the few nodes is near it.
-use Rattle.std.proofs.Common.{◌≡◌, pos, neg_ℤ, ◌≤ℤ◌, List, sym, subst, arith}
+use Rattle.std.proofs.Common.{pos, neg_ℤ, List, sym, subst}
 use Rattle.std.specs.Prelude.{Some}
-use Rattle.std.proofs.lemmas.Int.{ints}
-use Rattle.whole_algebra.proofs.Signs.{≤ℤ_trans}
 use Rattle.plane_laws.proofs.Points.Same.{same_refl, same_sym}
 use Rattle.plane_laws.proofs.Segments.Mixes.{segment_same, start_on_segment}
 use Rattle.plane_laws.specs.Plane.{Point, IsOnSegment}
@@ -29,22 +27,9 @@ use Rattle.relate_core.specs.Tables.{IsTableOf}
 use Rattle.relate_core.proofs.FigureEdges.{edge_of_seg, two_ends_at}
 use Rattle.relate_core.proofs.Positions.{each_position}
 
--- a window that holds every position within the limit
-pub record IsEverywhere (w : Window) : Type 0 where
-  pub left : w.low_x ≤ℤ neg_ℤ (pos limit)
-  pub right : pos limit ≤ℤ w.high_x
-  pub bottom : w.low_y ≤ℤ neg_ℤ (pos limit)
-  pub top : pos limit ≤ℤ w.high_y
-
--- as the box of all coordinates within the limit does
-pub everywhere : (w : Window) → w.low_x ≡ neg_ℤ (pos limit) → w.high_x ≡ pos limit → w.low_y ≡ neg_ℤ (pos limit) → w.high_y ≡ pos limit
-    → IsEverywhere w
-everywhere w l r b t = record {
-  left = omega (arith, ints, l);
-  right = omega (arith, ints, r);
-  bottom = omega (arith, ints, b);
-  top = omega (arith, ints, t);
-}
+-- the box of all coordinates within the limit
+abbrev pub everywhere : Window
+everywhere = record { low_x = neg_ℤ (pos limit); low_y = neg_ℤ (pos limit); high_x = pos limit; high_y = pos limit }
 
 -- all positions of a valid figure are within the limit
 positions_in_limit : (f : Figure) → IsWellShaped f → IsValid f → Each IsInLimit (all_positions f)
@@ -56,43 +41,38 @@ positions_in_limit f shaped valid =
     let ends = subst (λ (z : Seg). HasTwoEnds z) t.seg_is (two_ends_at f place t.edge shaped t.edge_is) in
     (ends.first, ends.second))
 
-module _ (w : Window) (everywhere : IsEverywhere w) where
-  -- a segment whose ends are within the limit is in the window
-  holds_between : (a b : Pt) → IsInLimit a → IsInLimit b → (v : Point) → IsOnSegment (point_of a) (point_of b) v → IsInWindow w v
-  holds_between a b h k v on =
-      in_window-mix w a b v (≤ℤ_trans everywhere.left h.left) (≤ℤ_trans everywhere.left k.left) (≤ℤ_trans h.right everywhere.right)
-      (≤ℤ_trans k.right everywhere.right) (≤ℤ_trans everywhere.bottom h.bottom) (≤ℤ_trans everywhere.bottom k.bottom)
-      (≤ℤ_trans h.top everywhere.top) (≤ℤ_trans k.top everywhere.top) on
+-- a segment whose ends are within the limit is in the box
+holds_between : (a b : Pt) → IsInLimit a → IsInLimit b → (v : Point) → IsOnSegment (point_of a) (point_of b) v → IsInWindow everywhere v
+holds_between a b h k v on = in_window-mix everywhere a b v h.left k.left h.right k.right h.bottom k.bottom h.top k.top on
 
-  -- so is a point on an edge of a well shaped figure
-  holds_crossing : (f : Figure) → IsWellShaped f → (others : List Seg) (v : Point) → IsCrossing (segs_of f) others v → IsInWindow w v
-  holds_crossing f shaped others v c =
-      let t = edge_of_seg f c.i c.e c.e_is in
-      let ends = two_ends_at f c.i t.edge shaped t.edge_is in
-      holds_between t.edge.seg.a t.edge.seg.b ends.first ends.second v (subst (λ (z : Seg). IsOnEdge z v) (sym t.seg_is) c.meet.on_e)
+-- so is a point on an edge of a well shaped figure
+holds_crossing : (f : Figure) → IsWellShaped f → (others : List Seg) (v : Point) → IsCrossing (segs_of f) others v → IsInWindow everywhere v
+holds_crossing f shaped others v c =
+    let t = edge_of_seg f c.i c.e c.e_is in
+    let ends = two_ends_at f c.i t.edge shaped t.edge_is in
+    holds_between t.edge.seg.a t.edge.seg.b ends.first ends.second v (subst (λ (z : Seg). IsOnEdge z v) (sym t.seg_is) c.meet.on_e)
 
-  module _ (a b : Figure) (valid : AreValid a b) where
-    -- so each of the few nodes is in it
-    holds_few : (v : Point) → IsFewNode a b v → IsInWindow w v
-    holds_few v (position at) =
-        let p = at_some v (positions_of_both a b) at in
-        let within =
-        each_both IsInLimit (all_positions a) (all_positions b) (positions_in_limit a valid.a_shaped valid.a_valid)
-        (positions_in_limit b valid.b_shaped valid.b_valid) p.place p.item p.item_is in
-        let q = point_of p.item in
-        holds_between p.item p.item within within v
-        (segment_same (same_refl q) (same_refl q) (same_sym p.is_so) (start_on_segment q q))
-    holds_few v (between c) = holds_crossing a valid.a_shaped (segs_of b) v c
-    holds_few v (of_a has c) = holds_crossing a valid.a_shaped (segs_of a) v c
-    holds_few v (of_b has c) = holds_crossing b valid.b_shaped (segs_of b) v c
+module _ (a b : Figure) (valid : AreValid a b) where
+  -- so each of the few nodes is in it
+  holds_few : (v : Point) → IsFewNode a b v → IsInWindow everywhere v
+  holds_few v (position at) =
+      let p = at_some v (positions_of_both a b) at in
+      let within =
+      each_both IsInLimit (all_positions a) (all_positions b) (positions_in_limit a valid.a_shaped valid.a_valid)
+      (positions_in_limit b valid.b_shaped valid.b_valid) p.place p.item p.item_is in
+      let q = point_of p.item in
+      holds_between p.item p.item within within v (segment_same (same_refl q) (same_refl q) (same_sym p.is_so) (start_on_segment q q))
+  holds_few v (between c) = holds_crossing a valid.a_shaped (segs_of b) v c
+  holds_few v (of_a has c) = holds_crossing a valid.a_shaped (segs_of a) v c
+  holds_few v (of_b has c) = holds_crossing b valid.b_shaped (segs_of b) v c
 
-    -- and a table of the near ones is one of them all
-    pub table_of_all : (table : List Entry) → IsTableOf (IsNearNode (Some w) a b) a b table → IsTableOf (IsFewNode a b) a b table
-    table_of_all table h = record {
-      in_order = h.in_order;
-      nodes = record {
-        only = λ k d below. (h.nodes.only k d below).0;
-        whole = λ v few. h.nodes.whole v (few, in_is_near w v (holds_few v few));
-      };
-      sections = h.sections;
-    }
+  -- and a table of those near it is one of them all
+  pub table_of_all : (table : List Entry) → IsTableOf (IsNearNode (Some everywhere) a b) a b table → IsTableOf (IsFewNode a b) a b table
+  table_of_all table h = record {
+    in_order = h.in_order;
+    nodes = record {
+      only = λ k d below. (h.nodes.only k d below).0;
+      whole = λ v few. h.nodes.whole v (few, in_is_near everywhere v (holds_few v few));
+    };
+    sections = h.sections;
+  }

@@ -12,7 +12,7 @@ invariant-loop-entry g l = record {
   looks_a : g.A.Target.looks l.a ≡ g.A.Target.looks l.fn.a;
   looks_b : g.B.Target.looks l.b ≡ g.B.Target.looks l.fn.b;
   filled :
-      IsFilledBefore (IsNearNode (Some l.w) (g.A.Target.figure l.fn.a) (g.B.Target.figure l.fn.b)) (g.A.Target.figure l.fn.a) (g.B.Target.figure l.fn.b)
+      IsFilledBefore (IsNearNode (Some l.fn.w) (g.A.Target.figure l.fn.a) (g.B.Target.figure l.fn.b)) (g.A.Target.figure l.fn.a) (g.B.Target.figure l.fn.b)
       l.table l.nodes;
 }
 
