@@ -21,11 +21,19 @@ common_of_sides u v w lx ly hx hy p = (λ both. held both.0 both.1, λ h. (withi
   where
     held : IsInWindow u p → IsInWindow v p → IsInWindow w p
     held h k = record {
-      left = subst (λ (m : ℤ). (m *ℤ p.w) ≤ℤ p.x) (sym lx) (of_either (λ m. (m *ℤ p.w) ≤ℤ p.x) (int_lt v.low_x u.low_x) u.low_x v.low_x h.left k.left);
-      right = subst (λ (m : ℤ). p.x ≤ℤ (m *ℤ p.w)) (sym hx) (of_either (λ m. p.x ≤ℤ (m *ℤ p.w)) (int_lt v.high_x u.high_x) v.high_x u.high_x k.right h.right);
-      bottom = subst (λ (m : ℤ). (m *ℤ p.w) ≤ℤ p.y) (sym ly) (of_either (λ m. (m *ℤ p.w) ≤ℤ p.y) (int_lt v.low_y u.low_y) u.low_y v.low_y h.bottom k.bottom);
-      top = subst (λ (m : ℤ). p.y ≤ℤ (m *ℤ p.w)) (sym hy) (of_either (λ m. p.y ≤ℤ (m *ℤ p.w)) (int_lt v.high_y u.high_y) v.high_y u.high_y k.top h.top);
+      left = at_least p.x u.low_x v.low_x w.low_x lx h.left k.left;
+      right = at_most p.x u.high_x v.high_x w.high_x hx h.right k.right;
+      bottom = at_least p.y u.low_y v.low_y w.low_y ly h.bottom k.bottom;
+      top = at_most p.y u.high_y v.high_y w.high_y hy h.top k.top;
     }
+      where
+        at_least : (x m n low : ℤ) → low ≡ int_max m n → (m *ℤ p.w) ≤ℤ x → (n *ℤ p.w) ≤ℤ x → (low *ℤ p.w) ≤ℤ x
+        at_least x m n low e h k =
+            subst (λ (z : ℤ). (z *ℤ p.w) ≤ℤ x) (sym e) (of_either (λ z. (z *ℤ p.w) ≤ℤ x) (int_lt n m) m n h k)
+
+        at_most : (x m n high : ℤ) → high ≡ int_min m n → x ≤ℤ (m *ℤ p.w) → x ≤ℤ (n *ℤ p.w) → x ≤ℤ (high *ℤ p.w)
+        at_most x m n high e h k =
+            subst (λ (z : ℤ). x ≤ℤ (z *ℤ p.w)) (sym e) (of_either (λ z. x ≤ℤ (z *ℤ p.w)) (int_lt n m) n m k h)
 
     in_first : IsWithin w u
     in_first = record {

@@ -1,6 +1,6 @@
 -- Where two edges have one common point alone: what a test of two edges says, and the edges that a pass over the places near an edge and a
 -- box finds.
-use Rattle.std.proofs.Common.{◌≡◌, ℕ, ◌<◌, true, List, [], ◌∷◌, length, refl, sym, ◌∙◌, subst, arith}
+use Rattle.std.proofs.Common.{◌≡◌, ℕ, true, false, List, refl, sym, ◌∙◌, subst}
 use Rattle.std.specs.Prelude.{◌↔◌}
 use Rattle.std.proofs.lemmas.Bool.{true≢false}
 use Rattle.std.proofs.lemmas.Option.{slice_get-get_or}
@@ -31,10 +31,6 @@ use Rattle.relate_core.proofs.FigureEdges.{HasEdgeAt, HasPlaceIn, edge_of_seg, s
 use Rattle.relate_core.proofs.Sets.{adds_none, adds_same}
 
 -- ---- the only common point of two edges
--- of the edges in the other order
-pub only_swap : {e f : Seg} {v : Point} → IsOnlyCommonPoint e f v → IsOnlyCommonPoint f e v
-only_swap h = record { on_e = h.on_f; on_f = h.on_e; only = λ p on_f on_e. h.only p on_e on_f }
-
 -- it is the node that the test answers
 only_at : {e f : Seg} {v : Point} (n : Node) → IsMeet e f (At n) → IsSamePoint v (point_at n) → IsOnlyCommonPoint e f v
 only_at {e} {f} {v} n m s = record {
@@ -124,22 +120,12 @@ all_crossings f e w around common least holds places found old new h = adds_same
             }
 
 -- ---- the edges of a figure with themselves
--- a list with a length has an item
-has_by_length : {T : Type 0} (items : List T) → 0 < length items → has_item items ≡ true
-has_by_length [] some = absurd (omega (arith, some))
-has_by_length (x ∷ items) some = refl
-
--- and one with none hasn't
-none_by_length : {T : Type 0} (items : List T) → length items ≡ 0 → ¬ (has_item items ≡ true)
-none_by_length [] none has = absurd (true≢false (sym has))
-none_by_length (x ∷ items) none has = absurd (omega (arith, none))
-
 -- where the figure has areas, all their crossings have to be in
-pub own_crossings : (w : Window) (f : Figure) (edges : List Seg) (old new : List Entry) → 0 < length f.areas
+pub own_crossings : (w : Window) (f : Figure) (edges : List Seg) (old new : List Entry) → has_item f.areas ≡ true
     → AddsNear w (CrossesSome edges (segs_of f)) old new → AddsNear w (CrossesWithin edges f) old new
-own_crossings w f edges old new some h = adds_same w (λ v c. (has_by_length f.areas some, c)) (λ v near c. c.1) h
+own_crossings w f edges old new has h = adds_same w (λ v c. (has, c)) (λ v near c. c.1) h
 
 -- and else none
-pub no_own_crossings : (w : Window) (f : Figure) (edges : List Seg) (t : List Entry) → length f.areas ≡ 0
+pub no_own_crossings : (w : Window) (f : Figure) (edges : List Seg) (t : List Entry) → has_item f.areas ≡ false
     → AddsNear w (CrossesWithin edges f) t t
-no_own_crossings w f edges t none = adds_none w t (λ v near c. none_by_length f.areas none c.0)
+no_own_crossings w f edges t none = adds_none w t (λ v near c. true≢false (sym c.0 ∙ none))

@@ -3,7 +3,7 @@ use Rattle.std.proofs.Common.{◌≡◌, ◌⊎◌, inl, inr, ℕ, zero, suc, �
 use Rattle.std.specs.Option.{option_map}
 use Rattle.std.specs.List.{All}
 use Rattle.std.proofs.lemmas.Bool.{cases_lt}
-use Rattle.std.proofs.lemmas.List.Elements.{All-nil, All-push, at_from_Contains}
+use Rattle.std.proofs.lemmas.List.Elements.{All-push, at_from_Contains}
 use Rattle.std.proofs.lemmas.Option.{slice_get_within, slice_get-map}
 use Rattle.plane_laws.specs.Plane.{Point}
 use Rattle.plane_exact.specs.Windows.{IsInWindow}
@@ -100,14 +100,6 @@ pub record AreEdgesBefore (f : Figure) (places : List ℕ) (k : ℕ) (edges : Li
   pub two_ends : All HasTwoEnds edges
   pub only : Each (λ e. (i : ℕ) × IsAtPlace (segs_of f) i e) edges
   pub whole : (i : ℕ) → i < k → (e : Seg) → IsAtPlace (segs_of f) (get_or places i 0) e → (j : ℕ) × IsAtPlace edges j e
-
--- at first there are none
-pub no_edges : (f : Figure) (places : List ℕ) → AreEdgesBefore f places 0 []
-no_edges f places = record {
-  two_ends = All-nil HasTwoEnds;
-  only = λ i e is. cc;
-  whole = λ i below e is. absurd (omega (arith, below));
-}
 
 -- the last item of a list
 place_last : {X : Type 0} (xs : List X) (x : X) → IsAtPlace (xs ++ x ∷ []) (length xs) x

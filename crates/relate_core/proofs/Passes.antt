@@ -1,5 +1,5 @@
 -- What one step of a pass over positions, lines and edges puts into a table where it is near a box.
-use Rattle.std.proofs.Common.{◌≡◌, ℕ, ◌+◌, ◌<◌, None, List, [], length, get_or, sym, ◌∙◌, subst}
+use Rattle.std.proofs.Common.{◌≡◌, ℕ, ◌+◌, ◌<◌, None, List, length, get_or, sym, ◌∙◌, subst}
 use Rattle.std.specs.Prelude.{slice_get}
 use Rattle.std.proofs.lemmas.Option.{slice_get-get_or}
 use Rattle.plane_laws.specs.Plane.{Point}
@@ -37,8 +37,8 @@ module _ (w : Window) where
       (adds_position mid new n (get_or items k d) at added)
 
   -- the first position of a line
-  pub start_next : (lines : List (List Pt)) (k : ℕ) (line : List Pt) → IsAtPlace lines k line → (old mid new : List Entry) (n : Node) (p : Pt)
-      → IsAtPlace line 0 p → point_at n ≡ point_of p → AddsNear w (IsAtThe (point_at n)) mid new
+  pub start_next : (lines : List (List Pt)) (k : ℕ) (line : List Pt) → IsAtPlace lines k line → (old mid new : List Entry) (n : Node)
+      (p : Pt) → IsAtPlace line 0 p → point_at n ≡ point_of p → AddsNear w (IsAtThe (point_at n)) mid new
       → AddsNear w (IsOfBefore IsAtFirst lines k) old mid → AddsNear w (IsOfBefore IsAtFirst lines (k + 1)) old new
   start_next lines k line is old mid new n p first at added h =
       adds_next w IsAtFirst lines k line old mid new is h

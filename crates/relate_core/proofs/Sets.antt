@@ -1,5 +1,5 @@
 -- Sets of points near a box that are put into a table one after the other, item by item.
-use Rattle.std.proofs.Common.{◌≡◌, ◌⊎◌, inl, inr, ℕ, ◌+◌, ◌<◌, ◌≤◌, List, [], length, sym, ◌∙◌, subst, arith}
+use Rattle.std.proofs.Common.{◌≡◌, ◌⊎◌, inl, inr, ℕ, ◌+◌, ◌<◌, ◌≤◌, List, length, sym, ◌∙◌, subst, arith}
 use Rattle.std.proofs.lemmas.Bool.{cases_lt}
 use Rattle.std.proofs.lemmas.Option.{slice_get_within}
 use Rattle.plane_laws.specs.Plane.{Point}
@@ -80,10 +80,6 @@ module _ (w : Window) where
 
   -- ---- item by item
   module _ {T : Type 0} (Set : T → Point → Type 0) (items : List T) where
-    -- before the first item there is none
-    pub adds_first : (t : List Entry) → AddsNear w (IsOfBefore Set items 0) t t
-    adds_first t = adds_none t (λ v near h. (let before = h.before in omega (arith, before)))
-
     -- one item more
     pub adds_next : (k : ℕ) (x : T) (old mid new : List Entry) → IsAtPlace items k x → AddsNear w (IsOfBefore Set items k) old mid
         → AddsNear w (Set x) mid new → AddsNear w (IsOfBefore Set items (k + 1)) old new

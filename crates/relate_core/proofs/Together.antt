@@ -25,7 +25,8 @@ use Rattle.near_laws.proofs.Boxes.NearEdges.{near_edges_meet}
 use Rattle.near_laws.specs.Near.{IsNearBox, IsNearNode}
 use Rattle.node_table.specs.declared.entry.Entry.{Entry}
 use Rattle.relate_core.specs.Tables.{IsListed, AreNodes}
-use Rattle.relate_core.specs.NodeSets.{AddsNear, IsOfSome, AreEdgesNear, CrossesSome, CrossesWithin, IsAtEnd, IsAtOneOf, IsAtPosition, IsAtStart, IsAtEitherEnd}
+use Rattle.relate_core.specs.NodeSets.{AddsNear, IsOfSome, AreEdgesNear, CrossesSome, CrossesWithin}
+use Rattle.relate_core.specs.NodeSets.{IsAtEnd, IsAtOneOf, IsAtPosition, IsAtStart, IsAtEitherEnd}
 use Rattle.relate_core.proofs.FigureEdges.{edge_of_seg}
 use Rattle.relate_core.proofs.Positions.{each_position, line_position, point_position}
 use Rattle.relate_core.proofs.Sets.{adds_both, adds_same}
@@ -128,12 +129,12 @@ some_crossing w f edges others are v near c =
     let p = are.whole c.i c.e c.e_is (meets_there w f v near c.i c.e c.e_is c.meet.on_e) in
     record { place = p.0; item = c.e; item_is = p.1; is_of = record { place = c.j; item = c.f; item_is = c.f_is; is_of = c.meet } }
 
-module _ (w : Window) (a b : Figure) (edges_a edges_b : List Seg) (are_a : AreEdgesNear w a edges_a) (are_b : AreEdgesNear w b edges_b) where
+module _ (w : Window) (a b : Figure) (near_a near_b : List Seg) (are_a : AreEdgesNear w a near_a) (are_b : AreEdgesNear w b near_b) where
   -- the positions of the first and of the second figure, and the crossings between both, within the first and within the second
   abbrev Found : Point → Type 0
   Found v =
-      (((IsAtOneOf (all_positions a) v ⊎ IsAtOneOf (all_positions b) v) ⊎ CrossesSome edges_a (segs_of b) v)
-      ⊎ CrossesWithin edges_a a v) ⊎ CrossesWithin edges_b b v
+      (((IsAtOneOf (all_positions a) v ⊎ IsAtOneOf (all_positions b) v) ⊎ CrossesSome near_a (segs_of b) v)
+      ⊎ CrossesWithin near_a a v) ⊎ CrossesWithin near_b b v
 
   at_position : (v : Point) → SomeItem (λ q. IsAtPosition q v) (positions_of_both a b) → IsFewNode a b v
   at_position v r = position (at_true v (positions_of_both a b) r.place r.item r.item_is r.is_so)
@@ -143,9 +144,9 @@ module _ (w : Window) (a b : Figure) (edges_a edges_b : List Seg) (are_a : AreEd
       at_position v (some_left (λ q. IsAtPosition q v) (all_positions a) (all_positions b) (item_of p))
   found_is_few v (inl (inl (inl (inr p)))) =
       at_position v (some_right (λ q. IsAtPosition q v) (all_positions a) (all_positions b) (item_of p))
-  found_is_few v (inl (inl (inr c))) = between (of_crossing a edges_a (segs_of b) v are_a.only c)
-  found_is_few v (inl (inr c)) = of_a c.0 (of_crossing a edges_a (segs_of a) v are_a.only c.1)
-  found_is_few v (inr c) = of_b c.0 (of_crossing b edges_b (segs_of b) v are_b.only c.1)
+  found_is_few v (inl (inl (inr c))) = between (of_crossing a near_a (segs_of b) v are_a.only c)
+  found_is_few v (inl (inr c)) = of_a c.0 (of_crossing a near_a (segs_of a) v are_a.only c.1)
+  found_is_few v (inr c) = of_b c.0 (of_crossing b near_b (segs_of b) v are_b.only c.1)
 
   position_found : (v : Point) → Each (λ q. IsAtPosition q v → Found v) (positions_of_both a b)
   position_found v =
@@ -157,14 +158,14 @@ module _ (w : Window) (a b : Figure) (edges_a edges_b : List Seg) (are_a : AreEd
   few_is_found v near (position at) =
       let p = at_some v (positions_of_both a b) at in
       position_found v p.place p.item p.item_is p.is_so
-  few_is_found v near (between c) = inl (inl (inr (some_crossing w a edges_a (segs_of b) are_a v near c)))
-  few_is_found v near (of_a has c) = inl (inr (has, some_crossing w a edges_a (segs_of a) are_a v near c))
-  few_is_found v near (of_b has c) = inr (has, some_crossing w b edges_b (segs_of b) are_b v near c)
+  few_is_found v near (between c) = inl (inl (inr (some_crossing w a near_a (segs_of b) are_a v near c)))
+  few_is_found v near (of_a has c) = inl (inr (has, some_crossing w a near_a (segs_of a) are_a v near c))
+  few_is_found v near (of_b has c) = inr (has, some_crossing w b near_b (segs_of b) are_b v near c)
 
   -- all together
   pub nodes_together : (one two three four five : List Entry) → AddsNear w (IsAtOneOf (all_positions a)) [] one
-      → AddsNear w (IsAtOneOf (all_positions b)) one two → AddsNear w (CrossesSome edges_a (segs_of b)) two three
-      → AddsNear w (CrossesWithin edges_a a) three four → AddsNear w (CrossesWithin edges_b b) four five
+      → AddsNear w (IsAtOneOf (all_positions b)) one two → AddsNear w (CrossesSome near_a (segs_of b)) two three
+      → AddsNear w (CrossesWithin near_a a) three four → AddsNear w (CrossesWithin near_b b) four five
       → AreNodes (IsNearNode (Some w) a b) five
   nodes_together one two three four five h1 h2 h3 h4 h5 = record {
     only = λ k d below. is_node (get_or five k d)

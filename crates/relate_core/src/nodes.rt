@@ -2,10 +2,11 @@ ghost use Rattle.std.specs.Prelude.{◌≡◌, OnOk, IfOk, All, Some};
 ghost use Rattle.plane_exact.specs.NodePoints.{point_at};
 ghost use Rattle.near_laws.specs.Near.{IsNearNode};
 ghost use Rattle.point_set.specs.Nodes.{all_positions, segs_of};
-ghost use Rattle.point_set.specs.Shape.{IsLineShaped, IsWayInLimit, IsWellShaped};
+ghost use Rattle.point_set.specs.Shape.{has_item, IsLineShaped, IsWayInLimit, IsWellShaped};
 ghost use Rattle.point_set.specs.Validity.{IsValid};
 ghost use Rattle.relate_core.specs.Tables.{AreNodes};
-ghost use Rattle.relate_core.specs.NodeSets.{AddsNear, AreEdgesNear, CrossesOne, CrossesSome, CrossesWithin, HasTwoEnds, IsAtEnd, IsAtOneOf, IsAtStart, IsAtThe};
+ghost use Rattle.relate_core.specs.NodeSets.{AddsNear, AreEdgesNear, CrossesOne, CrossesSome, CrossesWithin, HasTwoEnds};
+ghost use Rattle.relate_core.specs.NodeSets.{IsAtEnd, IsAtOneOf, IsAtStart, IsAtThe};
 
 use crate::edges::{common_part, edge_at, edges_near};
 use node_table::NodeTable;
@@ -120,10 +121,17 @@ fn add_own_crossings<T: Target>(
     ensures figure { T.figure t.new ≡ T.figure t.old }
     ensures looks { T.looks t.new ≡ T.looks t.old }
 {
-    if t.valid().figure().areas.len() > 0 {
+    if has_areas(t.valid().figure()) {
         add_crossings(alloc, nodes, edges, t, w)?;
     }
     Ok(())
+}
+
+/// Whether a figure has areas.
+fn has_areas(figure: &Figure) -> bool
+    ensures areas { result ≡ has_item figure.now.areas }
+{
+    figure.areas.len() > 0
 }
 
 /// Puts the only common points of edges with those of a figure in where they are near a box.

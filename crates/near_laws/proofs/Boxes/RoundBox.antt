@@ -56,24 +56,36 @@ record HasRange (x w : ℤ) : Type 0 where
 range_of : (x w : ℤ) → pos 0 <ℤ w → HasRange x w
 range_of x w hw =
     by_sign r
-    (λ h. record { low = q -ℤ pos 1; high = q; is = record {
-      below = omega (arith, linear, division, small.0, -ℤ-*ℤ q (pos 1) w, one-*ℤ w);
-      above = omega (arith, linear, division, h);
-      lowest = omega (arith, linear, division, h, +ℤ-*ℤ (q -ℤ pos 1) (pos 1) w, -ℤ-*ℤ q (pos 1) w, one-*ℤ w);
-      highest = omega (arith, linear, division, small.0, -ℤ-*ℤ q (pos 1) w, one-*ℤ w);
-    } })
-    (λ h. record { low = q; high = q; is = record {
-      below = omega (arith, linear, division, h);
-      above = omega (arith, linear, division, h);
-      lowest = omega (arith, linear, division, h, hw, +ℤ-*ℤ q (pos 1) w, one-*ℤ w);
-      highest = omega (arith, linear, division, h, hw, -ℤ-*ℤ q (pos 1) w, one-*ℤ w);
-    } })
-    (λ h. record { low = q; high = q +ℤ pos 1; is = record {
-      below = omega (arith, linear, division, h);
-      above = omega (arith, linear, division, small.1, +ℤ-*ℤ q (pos 1) w, one-*ℤ w);
-      lowest = omega (arith, linear, division, small.1, +ℤ-*ℤ q (pos 1) w, one-*ℤ w);
-      highest = omega (arith, linear, division, h, -ℤ-*ℤ (q +ℤ pos 1) (pos 1) w, +ℤ-*ℤ q (pos 1) w, one-*ℤ w);
-    } })
+    (λ h. record {
+      low = q -ℤ pos 1;
+      high = q;
+      is = record {
+        below = omega (arith, linear, division, small.0, -ℤ-*ℤ q (pos 1) w, one-*ℤ w);
+        above = omega (arith, linear, division, h);
+        lowest = omega (arith, linear, division, h, +ℤ-*ℤ (q -ℤ pos 1) (pos 1) w, -ℤ-*ℤ q (pos 1) w, one-*ℤ w);
+        highest = omega (arith, linear, division, small.0, -ℤ-*ℤ q (pos 1) w, one-*ℤ w);
+      };
+    })
+    (λ h. record {
+      low = q;
+      high = q;
+      is = record {
+        below = omega (arith, linear, division, h);
+        above = omega (arith, linear, division, h);
+        lowest = omega (arith, linear, division, h, hw, +ℤ-*ℤ q (pos 1) w, one-*ℤ w);
+        highest = omega (arith, linear, division, h, hw, -ℤ-*ℤ q (pos 1) w, one-*ℤ w);
+      };
+    })
+    (λ h. record {
+      low = q;
+      high = q +ℤ pos 1;
+      is = record {
+        below = omega (arith, linear, division, h);
+        above = omega (arith, linear, division, small.1, +ℤ-*ℤ q (pos 1) w, one-*ℤ w);
+        lowest = omega (arith, linear, division, small.1, +ℤ-*ℤ q (pos 1) w, one-*ℤ w);
+        highest = omega (arith, linear, division, h, -ℤ-*ℤ (q +ℤ pos 1) (pos 1) w, +ℤ-*ℤ q (pos 1) w, one-*ℤ w);
+      };
+    })
   where
     q : ℤ
     q = int_div x w

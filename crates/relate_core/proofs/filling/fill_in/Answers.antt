@@ -24,7 +24,8 @@ loop-entry-preserved g c =
       looks_a = c.in_ok-add_at.ensures.looks_a ∙ i.looks_a;
       looks_b = c.in_ok-add_at.ensures.looks_b ∙ i.looks_b;
       filled =
-          one_filled (IsNearNode (Some c.args.w) a b) a b done rest new e (subst (λ (t : List Entry). AreInOrder t) first c.in-Some.ensures.in_order)
+          one_filled (IsNearNode (Some c.args.w) a b) a b done rest new e
+          (subst (λ (t : List Entry). AreInOrder t) first c.in-Some.ensures.in_order)
           (subst (λ (z : Figure). AddsEntryOf a z e.node done new) i.figure_b
           (subst (λ (z : Figure). AddsEntryOf z (g.B.Target.figure c.loop-entry.b) e.node done new) i.figure_a
           c.in_ok-add_at.ensures.added))

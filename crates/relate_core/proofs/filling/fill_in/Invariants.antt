@@ -12,8 +12,8 @@ invariant-loop-entry g l = record {
   looks_a : g.A.Target.looks l.a ≡ g.A.Target.looks l.fn.a;
   looks_b : g.B.Target.looks l.b ≡ g.B.Target.looks l.fn.b;
   filled :
-      IsFilledBefore (IsNearNode (Some l.fn.w) (g.A.Target.figure l.fn.a) (g.B.Target.figure l.fn.b)) (g.A.Target.figure l.fn.a) (g.B.Target.figure l.fn.b)
-      l.table l.nodes;
+      IsFilledBefore (IsNearNode (Some l.fn.w) (g.A.Target.figure l.fn.a) (g.B.Target.figure l.fn.b)) (g.A.Target.figure l.fn.a)
+      (g.B.Target.figure l.fn.b) l.table l.nodes;
 }
 
 abbrev pub decreases-loop-entry : goal.decreases-loop-entry

@@ -1,4 +1,4 @@
-use Rattle.std.proofs.Common.{◌+◌, List, ℕ, get_or, sym, subst, arith}
+use Rattle.std.proofs.Common.{◌+◌, List, get_or, sym, subst, arith}
 use Rattle.point_set.specs.declared.figure.Figure.{Figure}
 use Rattle.point_set.specs.Edges.{OwnedEdge, edges_of_figure}
 use Rattle.point_set.specs.Nodes.{segs_of}
@@ -53,6 +53,7 @@ returns-clause-nodes g c =
     let near = as_read f c.common_part.result places _ c.as_slice-place-items.ensures.items c.in_ok-edges_in.ensures.places in
     subst (λ (z : Figure). AddsNear c.args.w (CrossesOne c.args.edge (segs_of z)) c.args.nodes.now c.loop-place.nodes)
     c.in_ok-edges_in.ensures.figure
-    (all_crossings f c.args.edge c.args.w c.of.result c.common_part.result c.of.ensures.least c.common_part.ensures.common places near c.args.nodes.now c.loop-place.nodes
+    (all_crossings f c.args.edge c.args.w c.of.result c.common_part.result c.of.ensures.least c.common_part.ensures.common places
+    near c.args.nodes.now c.loop-place.nodes
     (adds_all c.args.w (CrossesAt c.args.edge (edges_of_figure f)) places c.loop-place.place-index c.args.nodes.now c.loop-place.nodes
     (omega (arith, c.loop-place-test.false)) c.loop-place.invariant))

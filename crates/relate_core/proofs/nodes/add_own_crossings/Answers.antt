@@ -1,19 +1,17 @@
-use Rattle.std.proofs.Common.{List, length, ◌∙◌, ap, sym, subst, arith}
-use Rattle.point_set.specs.declared.figure.Area.{Area}
+use Rattle.std.proofs.Common.{◌∙◌, ap, sym}
 use Rattle.point_set.specs.declared.figure.Figure.{Figure}
-use Rattle.relate_core.specs.NodeSets.{AddsNear, CrossesWithin}
+use Rattle.point_set.specs.Shape.{has_item}
 use Rattle.relate_core.proofs.Crossings.{own_crossings, no_own_crossings}
 use Rattle.relate_core.proofs.nodes.add_own_crossings.Goals as goal
 
 pub returns-in_ok-add_crossings-clause-nodes : goal.returns-in_ok-add_crossings-clause-nodes
 returns-in_ok-add_crossings-clause-nodes g c =
-    let f = g.T.Target.figure c.args.t.now in
-    let same = ap (λ (z : Figure). length z.areas) (c.figure.ensures.same ∙ c.valid.ensures.figure) in
-    own_crossings c.args.w f c.args.edges.now c.args.nodes.now c.add_crossings.new.nodes
-    (omega (arith, same, c.len.ensures.length, c.if-len-gt0.true)) c.in_ok-add_crossings.ensures.nodes
+    let same = ap (λ (z : Figure). has_item z.areas) (c.figure.ensures.same ∙ c.valid.ensures.figure) in
+    own_crossings c.args.w (g.T.Target.figure c.args.t.now) c.args.edges.now c.args.nodes.now c.add_crossings.new.nodes
+    (sym (c.has_areas.ensures.areas ∙ same) ∙ c.if-has_areas.true) c.in_ok-add_crossings.ensures.nodes
 
-pub returns-else-len-gt0-clause-nodes : goal.returns-else-len-gt0-clause-nodes
-returns-else-len-gt0-clause-nodes g c =
-    let f = g.T.Target.figure c.args.t.now in
-    let same = ap (λ (z : Figure). length z.areas) (c.figure.ensures.same ∙ c.valid.ensures.figure) in
-    no_own_crossings c.args.w f c.args.edges.now c.args.nodes.now (omega (arith, same, c.len.ensures.length, c.if-len-gt0.false))
+pub returns-else-has_areas-clause-nodes : goal.returns-else-has_areas-clause-nodes
+returns-else-has_areas-clause-nodes g c =
+    let same = ap (λ (z : Figure). has_item z.areas) (c.figure.ensures.same ∙ c.valid.ensures.figure) in
+    no_own_crossings c.args.w (g.T.Target.figure c.args.t.now) c.args.edges.now c.args.nodes.now
+    (sym (c.has_areas.ensures.areas ∙ same) ∙ c.if-has_areas.false)
