@@ -1,26 +1,17 @@
--- The edges of a figure by their places: each has two different ends within the limit, and meets the box that holds every position.
-use Rattle.std.proofs.Common.{◌≡◌, ◌⊎◌, inl, inr, ℕ, zero, suc, ℤ, pos, neg_ℤ, ◌≤ℤ◌, ◌+◌, ◌<◌, ◌≤◌, List, [], ◌∷◌, ◌++◌, map, length, get_or, ap, refl, sym, ◌∙◌, subst, arith}
-use lib.IntN.{*ℤ-one, one}
+-- The edges of a figure by their places: each has two different ends within the limit, and those at the places that meet a box.
+use Rattle.std.proofs.Common.{◌≡◌, ◌⊎◌, inl, inr, ℕ, zero, suc, ◌+◌, ◌<◌, ◌≤◌, List, [], ◌∷◌, ◌++◌, map, length, get_or, ap, refl, sym, ◌∙◌, subst, arith}
 use Rattle.std.specs.Option.{option_map}
 use Rattle.std.specs.List.{All}
-use Rattle.std.specs.Int.{int_max, int_min}
 use Rattle.std.proofs.lemmas.Bool.{cases_lt}
-use Rattle.std.proofs.lemmas.Int.{ints}
-use Rattle.std.proofs.lemmas.List.Elements.{All-nil, All-push, at_from_Contains}
+use Rattle.std.proofs.lemmas.List.Elements.{All-push, at_from_Contains}
 use Rattle.std.proofs.lemmas.Option.{slice_get_within, slice_get-map}
-use Rattle.whole_algebra.proofs.Signs.{≤ℤ_trans}
-use Rattle.plane_laws.proofs.Segments.Mixes.{start_on_segment}
 use Rattle.plane_laws.specs.Plane.{Point}
-use Rattle.plane_exact.proofs.Laws.{least_of_ends}
-use Rattle.plane_exact.specs.Limits.{limit}
-use Rattle.plane_exact.specs.Places.{IsInLimit, point_of}
-use Rattle.plane_exact.specs.Windows.{IsInWindow, IsLeastWindow}
-use Rattle.plane_exact.specs.declared.point.Pt.{Pt}
+use Rattle.plane_exact.specs.Windows.{IsInWindow}
 use Rattle.plane_exact.specs.declared.point.Seg.{Seg}
 use Rattle.plane_exact.specs.declared.window.Window.{Window}
 use Rattle.point_set.specs.declared.edge.Edge.{Edge}
 use Rattle.point_set.specs.declared.figure.Figure.{Figure}
-use Rattle.point_set.specs.Edges.{OwnedEdge, edges_of_figure, IsEdgeAt, ArePlacesIn}
+use Rattle.point_set.specs.Edges.{OwnedEdge, edges_of_figure, IsEdgeAt, ArePlacesIn, MeetsAtPlace}
 use Rattle.point_set.specs.Nodes.{segs_of}
 use Rattle.point_set.specs.Shape.{IsWellShaped}
 use Rattle.point_set.specs.Validity.{IsAtPlace, IsOnEdge}
@@ -28,7 +19,8 @@ use Rattle.figure_laws.proofs.Edges.Limits.{IsOwnedProper, proper_figure}
 use Rattle.figure_laws.proofs.Lists.Items.{Each, each_both, place_left}
 use Rattle.figure_laws.proofs.Lists.Least.{by_place}
 use Rattle.figure_laws.proofs.Lists.Places.{some_same, all_at}
-use Rattle.relate_core.specs.NodeSets.{HasTwoEnds, AreEdgesOf}
+use Rattle.near_laws.proofs.Boxes.Edges.{box_of, box_least}
+use Rattle.relate_core.specs.NodeSets.{HasTwoEnds, AreEdgesNear}
 
 -- ---- an edge at a place
 -- the edges of a well shaped figure have two different ends within the limit
@@ -70,19 +62,6 @@ pub record HasPlaceIn (places : List ℕ) (place : ℕ) : Type 0 where
   pub below : index < length places
   pub reads : (d : ℕ) → get_or places index d ≡ place
 
--- the least box of a segment
-abbrev box_of : Seg → Window
-box_of e = record {
-  low_x = int_min e.a.x e.b.x;
-  low_y = int_min e.a.y e.b.y;
-  high_x = int_max e.a.x e.b.x;
-  high_y = int_max e.a.y e.b.y;
-}
-
--- it is the least
-least_box : (e : Seg) → IsLeastWindow (IsOnEdge e) (box_of e)
-least_box e = least_of_ends (box_of e) e.a e.b refl refl refl refl
-
 -- a list of places is read as it stands
 pub as_read : (f : Figure) (w : Window) (items places : List ℕ) → items ≡ places → ArePlacesIn w (edges_of_figure f) places
     → ArePlacesIn w (edges_of_figure f) items
@@ -95,62 +74,32 @@ module _ (f : Figure) (w : Window) (places : List ℕ) (near : ArePlacesIn w (ed
       let m = near.meet k d below in
       slice_get_within (edges_of_figure f) (get_or places k d) m.edge m.edge_is
 
-  -- an edge with a point in the window has its place there
+  -- a place that meets the window is there
+  pub place_in : (place : ℕ) → MeetsAtPlace w (edges_of_figure f) place → HasPlaceIn places place
+  place_in place meets =
+      let c = at_from_Contains places place (near.whole place meets) in
+      record { index = c.0; below = c.1; reads = c.2 }
+
+  -- so is that of an edge with a point in the window
   pub near_place : (place : ℕ) (edge : OwnedEdge) → IsAtPlace (edges_of_figure f) place edge → (v : Point) → IsOnEdge edge.seg v
       → IsInWindow w v → HasPlaceIn places place
   near_place place edge is v on there =
-      let c = at_from_Contains places place (near.whole place (record {
+      place_in place (record {
         edge = edge;
         edge_is = is;
         meets = record {
           box = box_of edge.seg;
-          least = least_box edge.seg;
-          common = record { point = v; here = (least_box edge.seg).holds v on; there = there };
+          least = box_least edge.seg;
+          common = record { point = v; here = (box_least edge.seg).holds v on; there = there };
         };
-      })) in
-      record { index = c.0; below = c.1; reads = c.2 }
+      })
 
--- ---- all edges
--- a window that holds every position within the limit
-pub record IsEverywhere (w : Window) : Type 0 where
-  pub left : w.low_x ≤ℤ neg_ℤ (pos limit)
-  pub right : pos limit ≤ℤ w.high_x
-  pub bottom : w.low_y ≤ℤ neg_ℤ (pos limit)
-  pub top : pos limit ≤ℤ w.high_y
-
--- as the box of all coordinates within the limit does
-pub everywhere : (w : Window) → w.low_x ≡ neg_ℤ (pos limit) → w.high_x ≡ pos limit → w.low_y ≡ neg_ℤ (pos limit) → w.high_y ≡ pos limit
-    → IsEverywhere w
-everywhere w l r b t = record {
-  left = omega (arith, ints, l);
-  right = omega (arith, ints, r);
-  bottom = omega (arith, ints, b);
-  top = omega (arith, ints, t);
-}
-
--- a position within the limit is in it
-holds_position : (w : Window) → IsEverywhere w → (p : Pt) → IsInLimit p → IsInWindow w (point_of p)
-unfolding one
-holds_position w h p l = record {
-  left = subst (λ (z : ℤ). z ≤ℤ p.x) (sym (*ℤ-one w.low_x)) (≤ℤ_trans h.left l.left);
-  right = subst (λ (z : ℤ). p.x ≤ℤ z) (sym (*ℤ-one w.high_x)) (≤ℤ_trans l.right h.right);
-  bottom = subst (λ (z : ℤ). z ≤ℤ p.y) (sym (*ℤ-one w.low_y)) (≤ℤ_trans h.bottom l.bottom);
-  top = subst (λ (z : ℤ). p.y ≤ℤ z) (sym (*ℤ-one w.high_y)) (≤ℤ_trans l.top h.top);
-}
-
+-- ---- the edges at some places
 -- the edges at the first k places stand in a list
 pub record AreEdgesBefore (f : Figure) (places : List ℕ) (k : ℕ) (edges : List Seg) : Type 0 where
   pub two_ends : All HasTwoEnds edges
   pub only : Each (λ e. (i : ℕ) × IsAtPlace (segs_of f) i e) edges
   pub whole : (i : ℕ) → i < k → (e : Seg) → IsAtPlace (segs_of f) (get_or places i 0) e → (j : ℕ) × IsAtPlace edges j e
-
--- at first there are none
-pub no_edges : (f : Figure) (places : List ℕ) → AreEdgesBefore f places 0 []
-no_edges f places = record {
-  two_ends = All-nil HasTwoEnds;
-  only = λ i e is. cc;
-  whole = λ i below e is. absurd (omega (arith, below));
-}
 
 -- the last item of a list
 place_last : {X : Type 0} (xs : List X) (x : X) → IsAtPlace (xs ++ x ∷ []) (length xs) x
@@ -183,20 +132,16 @@ edge_more f places k edges new edge ends is e h =
         let is_edge : edge.seg ≡ z = some_same (sym here ∙ subst (λ (n : ℕ). IsAtPlace (segs_of f) (get_or places n 0) z) same at) in
         (length edges, subst (λ (x : Seg). IsAtPlace (edges ++ edge.seg ∷ []) (length edges) x) is_edge (place_last edges edge.seg))
 
--- past the last place these are all edges, where the places are those of the edges that meet a window with every position
-pub all_edges : (f : Figure) (w : Window) (places : List ℕ) → IsWellShaped f → IsEverywhere w → ArePlacesIn w (edges_of_figure f) places
-    → (k : ℕ) → length places ≤ k → (edges : List Seg) → AreEdgesBefore f places k edges → AreEdgesOf f edges
-all_edges f w places shaped everywhere near k past edges h = record {
+-- past the last place these are all that meet the window, where the places are those that meet it
+pub all_near : (f : Figure) (w : Window) (places : List ℕ) → ArePlacesIn w (edges_of_figure f) places → (k : ℕ) → length places ≤ k
+    → (edges : List Seg) → AreEdgesBefore f places k edges → AreEdgesNear w f edges
+all_near f w places near k past edges h = record {
   two_ends = h.two_ends;
   only = h.only;
-  whole = λ place e is. go place e is (edge_of_seg f place e is);
+  whole = λ place e is meets. go place e is (place_in f w places near place meets);
 }
   where
-    go : (place : ℕ) (e : Seg) → IsAtPlace (segs_of f) place e → HasEdgeAt f place e → (i : ℕ) × IsAtPlace edges i e
-    go place e is t =
-        let ends = two_ends_at f place t.edge shaped t.edge_is in
-        let p = near_place f w places near place t.edge t.edge_is (point_of t.edge.seg.a)
-        (start_on_segment (point_of t.edge.seg.a) (point_of t.edge.seg.b))
-        (holds_position w everywhere t.edge.seg.a ends.first) in
+    go : (place : ℕ) (e : Seg) → IsAtPlace (segs_of f) place e → HasPlaceIn places place → (i : ℕ) × IsAtPlace edges i e
+    go place e is p =
         let below = p.below in
         h.whole p.index (omega (arith, below, past)) e (subst (λ (n : ℕ). IsAtPlace (segs_of f) n e) (sym (p.reads 0)) is)

@@ -1,8 +1,10 @@
 mod Answered
+mod CommonParts
 mod Contributions
 mod Crossings
 mod EdgeSections
 mod Entries
+mod Everywhere
 mod FigureEdges
 mod Filled
 mod Passes

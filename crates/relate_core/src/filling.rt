@@ -1,19 +1,23 @@
-ghost use Rattle.std.specs.Prelude.{◌≡◌, OnOk, IfOk};
-ghost use Rattle.point_set.specs.Nodes.{IsNode};
+ghost use Rattle.std.specs.Prelude.{◌≡◌, OnOk, IfOk, Some};
+ghost use Rattle.near_laws.specs.Near.{IsNearNode};
+ghost use Rattle.point_set.specs.Nodes.{IsFewNode};
 ghost use Rattle.node_table.specs.Tables.{with_sections, AreInOrder};
 ghost use Rattle.relate_core.specs.Tables.{IsTableOf, AddsEntryOf};
 
+use crate::edges::EVERYWHERE;
 use crate::node_sections::sections_at;
-use crate::nodes::nodes_of;
+use crate::nodes::nodes_in;
+use crate::samples::are_valid;
 use fan_order::{Section, SectionList};
 use im_matrix::Which;
 use node_table::NodeTable;
-use plane_exact::{NoMemory, Node};
+use plane_exact::{NoMemory, Node, Window};
 use point_set::Target;
 use std::alloc::Global;
 
-/// The nodes of two figures, each once, with all sections of both figures at it and no others: those of the first figure and then
-/// those of the second.
+/// The few nodes of two figures, each once, with all sections of both figures at it and no others: those of the first figure and
+/// then those of the second. The few nodes are the positions of both, and the only common points of two edges, one of each figure,
+/// or both of one figure that has areas.
 ///
 /// # Errors
 /// `NoMemory`.
@@ -22,13 +26,34 @@ pub fn fill<A: Target, B: Target>(
     a: &mut A,
     b: &mut B,
 ) -> Result<NodeTable, NoMemory>
-    ensures table { IfOk result (IsTableOf (IsNode (A.figure a.old) (B.figure b.old)) (A.figure a.old) (B.figure b.old)) }
+    ensures table { IfOk result (IsTableOf (IsFewNode (A.figure a.old) (B.figure b.old)) (A.figure a.old) (B.figure b.old)) }
     ensures figure_a { A.figure a.new ≡ A.figure a.old }
     ensures figure_b { B.figure b.new ≡ B.figure b.old }
     ensures looks_a { A.looks a.new ≡ A.looks a.old }
     ensures looks_b { B.looks b.new ≡ B.looks b.old }
 {
-    let mut nodes = nodes_of(alloc, a, b)?;
+    are_valid(a, b);
+    fill_in(alloc, a, b, EVERYWHERE)
+}
+
+/// The few nodes of two figures that are near a box, each once, with all sections of both figures at it and no others, as `fill`
+/// has them. Near are those round which the least whole box has a common point with that box.
+///
+/// # Errors
+/// `NoMemory`.
+pub fn fill_in<A: Target, B: Target>(
+    alloc: Global,
+    a: &mut A,
+    b: &mut B,
+    w: Window,
+) -> Result<NodeTable, NoMemory>
+    ensures table { IfOk result (IsTableOf (IsNearNode (Some w) (A.figure a.old) (B.figure b.old)) (A.figure a.old) (B.figure b.old)) }
+    ensures figure_a { A.figure a.new ≡ A.figure a.old }
+    ensures figure_b { B.figure b.new ≡ B.figure b.old }
+    ensures looks_a { A.looks a.new ≡ A.looks a.old }
+    ensures looks_b { B.looks b.new ≡ B.looks b.old }
+{
+    let mut nodes = nodes_in(alloc, a, b, w)?;
     let mut table = NodeTable::new(alloc);
     while let Some(entry) = nodes.take_next() {
         add_at(alloc, &mut table, &entry.node, a, b)?;

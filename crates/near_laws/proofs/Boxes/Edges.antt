@@ -3,7 +3,7 @@ use Rattle.std.proofs.Common.{refl}
 use Rattle.std.specs.Int.{int_max, int_min}
 use Rattle.plane_laws.specs.Plane.{Point}
 use Rattle.plane_exact.specs.Places.{point_of}
-use Rattle.plane_exact.specs.Windows.{IsLeastWindow}
+use Rattle.plane_exact.specs.Windows.{IsInWindow, IsLeastWindow}
 use Rattle.plane_exact.specs.declared.point.Seg.{Seg}
 use Rattle.plane_exact.specs.declared.window.Window.{Window}
 use Rattle.point_set.specs.declared.figure.Figure.{Figure}
@@ -17,7 +17,7 @@ use Rattle.ring_laws.proofs.Germs.Edges.{on_true}
 use Rattle.near_laws.proofs.Boxes.Sides.{within_holds}
 
 -- the box of an edge
-abbrev box_of : Seg → Window
+abbrev pub box_of : Seg → Window
 box_of e = record {
   low_x = int_min e.a.x e.b.x;
   low_y = int_min e.a.y e.b.y;
@@ -26,23 +26,24 @@ box_of e = record {
 }
 
 -- it is the least that holds the edge
-box_least : (e : Seg) → IsLeastWindow (IsOnEdge e) (box_of e)
+pub box_least : (e : Seg) → IsLeastWindow (IsOnEdge e) (box_of e)
 box_least e = least_of_ends (box_of e) e.a e.b refl refl refl refl
 
--- the box round a point of the edge is within the edge's box
+-- each box that holds an edge holds what a box and the least box round a near point of the edge have in common
+pub holds_near : (e : Seg) (box : Window) → IsLeastWindow (IsOnEdge e) box → (w : Window) (v : Point) (near : IsNearBox w v) → IsOnEdge e v
+    → IsInWindow box near.common.point
+holds_near e box least w v near on =
+    within_holds
+    (near.least.least box (λ p same. least.holds p (segment_same (same_refl (point_of e.a)) (same_refl (point_of e.b)) same on)))
+    near.common.point near.common.here
+
+-- so the edge meets that box
 edge_meets : (w : Window) (v : Point) → IsNearBox w v → (e : Seg) → IsOnEdge e v → MeetsWindow w e
-edge_meets w v near e on =
-    let within = near.least.least (box_of e)
-    (λ p same. (box_least e).holds p (segment_same (same_refl (point_of e.a)) (same_refl (point_of e.b)) same on)) in
-    record {
-      box = box_of e;
-      least = box_least e;
-      common = record {
-        point = near.common.point;
-        here = within_holds within near.common.point near.common.here;
-        there = near.common.there;
-      };
-    }
+edge_meets w v near e on = record {
+  box = box_of e;
+  least = box_least e;
+  common = record { point = near.common.point; here = holds_near e (box_of e) (box_least e) w v near on; there = near.common.there };
+}
 
 -- so the edges that meet a box are all that hold a point near it
 pub near_edges_meet : (f : Figure) → LawNearEdgesMeet f

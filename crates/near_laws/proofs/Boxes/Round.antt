@@ -11,7 +11,7 @@ use Rattle.plane_exact.specs.Nodes.{IsRange}
 use Rattle.plane_exact.specs.Windows.{IsInWindow, IsLeastWindow, HasCommonPoint}
 use Rattle.plane_exact.specs.declared.window.Window.{Window}
 use Rattle.near_laws.specs.Near.{IsInBox, IsNearBox, IsNearWindow}
-use Rattle.plane_laws.proofs.Points.Same.{same_refl}
+use Rattle.plane_laws.proofs.Points.Same.{same_refl, same_sym, same_trans}
 use Rattle.plane_exact.proofs.Laws.{common_point, least_of_point, low_at_most_high}
 use Rattle.figure_laws.proofs.Edges.Windows.{one_least_window}
 use Rattle.near_laws.proofs.Boxes.Sides.{none_inside, in_window, within_holds}
@@ -84,10 +84,21 @@ round_box v =
     record { box = box; least = least_of_point box v across.is above.is }
 
 -- a point in a box is near it
-in_is_near : (w : Window) (v : Point) → IsInWindow w v → IsNearBox w v
+pub in_is_near : (w : Window) (v : Point) → IsInWindow w v → IsNearBox w v
 in_is_near w v h =
     let r = round_box v in
     record { box = r.box; least = r.least; common = record { point = v; here = r.least.holds v (same_refl v); there = h } }
+
+-- a point that is the same as a near one is near
+pub near_same : (w : Window) {v p : Point} → IsSamePoint v p → IsNearBox w p → IsNearBox w v
+near_same w same near = record {
+  box = near.box;
+  least = record {
+    holds = λ q h. near.least.holds q (same_trans (same_sym same) h);
+    least = λ other all. near.least.least other (λ q h. all q (same_trans same h));
+  };
+  common = near.common;
+}
 
 -- so what isn't near isn't in it
 pub far_is_out : (w : Option Window) (v : Point) → ¬ IsNearWindow w v → ¬ IsInBox w v

@@ -12,7 +12,7 @@ use Rattle.point_set.specs.declared.extent.Extent.{Extent}
 use Rattle.point_set.specs.declared.figure.Figure.{Figure}
 use Rattle.point_set.specs.declared.rule.Rule.{Rule}
 use Rattle.point_set.specs.Dimension.{IsDimension, ShowsDimension}
-use Rattle.point_set.specs.Nodes.{IsNode, IsFewNode}
+use Rattle.point_set.specs.Nodes.{IsFewNode}
 use Rattle.point_set.specs.Relation.{IsInCell}
 use Rattle.point_set.specs.Samples.{IsSample, IsGreatest}
 use Rattle.point_set.specs.Visible.{AreValid}

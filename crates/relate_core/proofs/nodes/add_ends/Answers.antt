@@ -6,14 +6,14 @@ use Rattle.relate_core.proofs.nodes.add_ends.Goals as goal
 
 pub loop-edge-preserved : goal.loop-edge-preserved
 loop-edge-preserved c =
-    ends_next c.as_slice-edge-items.result.now c.args.edges.now c.loop-edge.edge-index _ c.as_slice-edge-items.ensures.items
-    c.loop-edge-test.true c.args.nodes.now c.loop-edge.nodes c.add_node.new.self c.add_node-in-loop-edge.new.self c.at_point.result
-    c.at_point-in-loop-edge.result c.at_point.ensures.point c.at_point-in-loop-edge.ensures.point c.in_ok-add_node.ensures.added
-    c.in_ok-add_node-2.ensures.added c.loop-edge.invariant
+    ends_next c.args.w c.as_slice-edge-items.result.now c.args.edges.now c.loop-edge.edge-index _ c.as_slice-edge-items.ensures.items
+    c.loop-edge-test.true c.args.nodes.now c.loop-edge.nodes c.add_near.new.nodes c.add_near-in-loop-edge.new.nodes c.at_point.result
+    c.at_point-in-loop-edge.result c.at_point.ensures.point c.at_point-in-loop-edge.ensures.point c.in_ok-add_near.ensures.nodes
+    c.in_ok-add_near-2.ensures.nodes c.loop-edge.invariant
 
 pub returns : goal.returns
 returns c = record {
   nodes =
-      adds_all IsAtEitherEnd c.args.edges.now c.loop-edge.edge-index c.args.nodes.now c.loop-edge.nodes
+      adds_all c.args.w IsAtEitherEnd c.args.edges.now c.loop-edge.edge-index c.args.nodes.now c.loop-edge.nodes
       (let same = ap length c.as_slice-edge-items.ensures.items in omega (arith, same, c.loop-edge-test.false)) c.loop-edge.invariant;
 }
