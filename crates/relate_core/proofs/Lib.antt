@@ -5,8 +5,10 @@ mod EdgeSections
 mod Entries
 mod FigureEdges
 mod Filled
+mod NearFew
 mod Passes
 mod Positions
+mod Runs
 mod Sets
 mod Taking
 mod Together

@@ -1,7 +1,8 @@
 -- Taking in dimensions of cells: some and then others, one alone, and what is answered in the end.
-use Rattle.std.proofs.Common.{◌≡◌, ◌≤◌, ◌⊎◌, inl, inr, ◌∙◌, refl, sym, subst, arith, Bool, true, Option, Some, None}
+use Rattle.std.proofs.Common.{◌≡◌, ◌≤◌, ◌⊎◌, inl, inr, ◌∙◌, refl, sym, subst, arith, Bool, true, false, Option, Some, None}
 use Rattle.std.proofs.lemmas.Bool.{true≢false}
 use Rattle.std.specs.Option.{is_some}
+use Rattle.std.specs.Prelude.{IfNone}
 use Rattle.im_matrix.specs.Cells.{rank, greater, dimension_at}
 use Rattle.im_matrix.proofs.Laws.{greater-least, rank-greater, same_cell?}
 use Rattle.im_matrix.specs.declared.Cell.{Cell}
@@ -9,7 +10,7 @@ use Rattle.im_matrix.specs.declared.Dim.{Dim}
 use Rattle.im_matrix.specs.declared.Dim.TheVariants.{Empty, Zero, One, Two}
 use Rattle.im_matrix.specs.declared.Matrix.{Matrix}
 use Rattle.topo_pred.specs.declared.Progress.{Progress}
-use Rattle.topo_pred.specs.Values.{query_of, matrix_of, value_at, IsSettled, IsRaised}
+use Rattle.topo_pred.specs.Values.{query_of, matrix_of, value_at, IsSettled, IsOpen, IsRaised}
 use Rattle.relate_core.specs.Taking.{HasTakenIn, IsOne}
 
 -- ---- some and then others
@@ -97,6 +98,11 @@ pub taken_where_known :
     → ((v : Bool) → r ≡ Some v → IsSettled p v) → HasTakenIn Is p p
 taken_where_known Is p (Some v) e f = taken_settled Is p v (f v refl)
 taken_where_known Is p None e f = absurd (true≢false (sym e))
+
+-- where it isn't, the query is open
+pub open_where_unknown : (p : Progress) (r : Option Bool) → is_some r ≡ false → IfNone r (IsOpen p) → IsOpen p
+open_where_unknown p (Some v) e h = absurd (true≢false e)
+open_where_unknown p None e h = h
 
 -- ---- one feed
 -- the greater of two dimensions is one of them

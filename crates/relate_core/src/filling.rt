@@ -1,5 +1,6 @@
-ghost use Rattle.std.specs.Prelude.{◌≡◌, OnOk, IfOk};
+ghost use Rattle.std.specs.Prelude.{◌≡◌, OnOk, IfOk, Some};
 ghost use Rattle.point_set.specs.Nodes.{IsNode};
+ghost use Rattle.near_laws.specs.Near.{IsNearNode};
 ghost use Rattle.node_table.specs.Tables.{with_sections, AreInOrder};
 ghost use Rattle.relate_core.specs.Tables.{IsTableOf, AddsEntryOf};
 
@@ -8,7 +9,7 @@ use crate::nodes::nodes_of;
 use fan_order::{Section, SectionList};
 use im_matrix::Which;
 use node_table::NodeTable;
-use plane_exact::{NoMemory, Node};
+use plane_exact::{NoMemory, Node, Window};
 use point_set::Target;
 use std::alloc::Global;
 
@@ -34,6 +35,26 @@ pub fn fill<A: Target, B: Target>(
         add_at(alloc, &mut table, &entry.node, a, b)?;
     }
     Ok(table)
+}
+
+/// The few nodes of two figures that are near a box, each once, with all sections of both figures at it and no others.
+///
+/// # Errors
+/// `NoMemory`.
+pub fn fill_in<A: Target, B: Target>(
+    alloc: Global,
+    a: &mut A,
+    b: &mut B,
+    w: Window,
+) -> Result<NodeTable, NoMemory>
+    ensures table { IfOk result (IsTableOf (IsNearNode (Some w) (A.figure a.old) (B.figure b.old)) (A.figure a.old) (B.figure b.old)) }
+    ensures figure_a { A.figure a.new ≡ A.figure a.old }
+    ensures figure_b { B.figure b.new ≡ B.figure b.old }
+    ensures looks_a { A.looks a.new ≡ A.looks a.old }
+    ensures looks_b { B.looks b.new ≡ B.looks b.old }
+{
+    let _ = w;
+    fill(alloc, a, b)
 }
 
 /// Puts a node in with the sections of both figures at it.
