@@ -7,7 +7,7 @@ use Rattle.std.proofs.lemmas.List.Elements.{All-cons, All-contains, All-weaker}
 use Rattle.plane_laws.proofs.Points.Order.{compare_points_total, compare_points_same}
 use Rattle.plane_laws.proofs.Points.Same.{same_refl, same_sym, same_trans}
 use Rattle.plane_laws.specs.Plane.{Point, IsSamePoint}
-use Rattle.plane_exact.proofs.NodeValues.{one_node}
+use Rattle.plane_exact.proofs.Laws.{one_node}
 use Rattle.plane_exact.specs.NodePoints.{point_at}
 use Rattle.plane_exact.specs.declared.node.Node.{Node}
 use Rattle.node_table.specs.Orders.{compare_nodes}
@@ -129,12 +129,12 @@ part_first nothing (suc i) = record { j = 0; few = omega arith; first = λ v h l
 part_first (left_out {n} {nodes} {entries} apart part) (suc i) =
     let k = part_first part i in
     let few = k.few in
-    record { j = k.j; few = omega (arith, few); first = λ v h l. by_first v l (k.first v) (one_first v n (take i nodes) h) }
+    record { j = k.j; few = omega (arith, few); first = λ v h l. by_first k.j v l (k.first v) (one_first v n (take i nodes) h) }
   where
-    by_first : {j : ℕ} (v : Point) → IsListed entries v → (IsOneOf (take i nodes) v → IsListed entries v → IsListed (take j entries) v)
+    by_first : (j : ℕ) (v : Point) → IsListed entries v → (IsOneOf (take i nodes) v → IsListed entries v → IsListed (take j entries) v)
         → IsSamePoint v (point_at n) ⊎ IsOneOf (take i nodes) v → IsListed (take j entries) v
-    by_first v l rest (inl same) = absurd (apart v l same)
-    by_first v l rest (inr h) = rest h l
+    by_first j v l rest (inl same) = absurd (apart v l same)
+    by_first j v l rest (inr h) = rest h l
 part_first (taken {n} {nodes} {e} {rest} same part) (suc i) =
     let k = part_first part i in
     let few = k.few in
