@@ -5,10 +5,13 @@ mod EdgeSections
 mod Entries
 mod FigureEdges
 mod Filled
+mod LooksAreFew
 mod NearFew
 mod Passes
 mod Positions
 mod Runs
+mod SampleMatrices
+mod SectorSamples
 mod Sets
 mod Taking
 mod Together
