@@ -3,6 +3,7 @@ mod Contributions
 mod Crossings
 mod EdgeSections
 mod Entries
+mod FarCells
 mod FigureEdges
 mod Filled
 mod LooksAreFew

@@ -71,6 +71,40 @@ taken_together First Second Both one other either p q r h k = record {
         both c d (inl s) = let x = f c d s in let y = k.kept c in omega (arith, x, y)
         both c d (inr s) = g c d s
 
+-- so of two kinds together
+pub taken_either :
+    (First Second : Cell → Dim → Type 0) → (p q r : Progress) → HasTakenIn First p q → HasTakenIn Second q r
+    → HasTakenIn (λ c d. First c d ⊎ Second c d) p r
+taken_either First Second p q r h k =
+    taken_together First Second (λ c d. First c d ⊎ Second c d) (λ c d s. inl s) (λ c d s. inr s) (λ c d s. s) p q r h k
+
+-- and what the matrix has from the first need not be taken in
+pub taken_with_known :
+    (First All : Cell → Dim → Type 0) → (p q : Progress) → ((c : Cell) (d : Dim) → First c d → All c d)
+    → ((c : Cell) (d : Dim) → All c d → First c d ⊎ (rank d ≤ rank (dimension_at (matrix_of p) c))) → HasTakenIn First p q
+    → HasTakenIn All p q
+taken_with_known First All p q one known h = record {
+  query = h.query;
+  value = h.value;
+  kept = h.kept;
+  only = λ c. only c (h.only c);
+  whole = whole h.whole;
+}
+  where
+    only : (c : Cell) → (dimension_at (matrix_of q) c ≡ dimension_at (matrix_of p) c) ⊎ First c (dimension_at (matrix_of q) c)
+        → (dimension_at (matrix_of q) c ≡ dimension_at (matrix_of p) c) ⊎ All c (dimension_at (matrix_of q) c)
+    only c (inl e) = inl e
+    only c (inr s) = inr (one c (dimension_at (matrix_of q) c) s)
+
+    whole : ((v : Bool) × IsSettled q v) ⊎ ((c : Cell) (d : Dim) → First c d → rank d ≤ rank (dimension_at (matrix_of q) c))
+        → ((v : Bool) × IsSettled q v) ⊎ ((c : Cell) (d : Dim) → All c d → rank d ≤ rank (dimension_at (matrix_of q) c))
+    whole (inl s) = inl s
+    whole (inr f) = inr (λ c d s. each c d (known c d s))
+      where
+        each : (c : Cell) (d : Dim) → First c d ⊎ (rank d ≤ rank (dimension_at (matrix_of p) c)) → rank d ≤ rank (dimension_at (matrix_of q) c)
+        each c d (inl s) = f c d s
+        each c d (inr low) = let more = h.kept c in omega (arith, low, more)
+
 -- ---- nothing
 -- where there is nothing to take in
 pub taken_nothing : (Is : Cell → Dim → Type 0) (p : Progress) → ((c : Cell) (d : Dim) → ¬ Is c d) → HasTakenIn Is p p

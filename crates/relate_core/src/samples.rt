@@ -119,7 +119,7 @@ fn take_in_sectors(progress: &mut Progress, fan: &Fan, at_a: DimLoc, at_b: DimLo
 }
 
 /// Takes in a cell's dimension, unless the value is known.
-fn take_in_cell(progress: &mut Progress, c: Cell, d: Dim)
+pub(crate) fn take_in_cell(progress: &mut Progress, c: Cell, d: Dim)
     ensures taken { HasTakenIn (IsOne c d) progress.old progress.new }
 {
     if progress.known().is_none() {
