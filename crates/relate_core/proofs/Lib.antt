@@ -3,11 +3,13 @@ mod Contributions
 mod Crossings
 mod EdgeSections
 mod Entries
+mod Evaluated
 mod FarCells
 mod FigureEdges
 mod Filled
 mod LooksAreFew
 mod NearFew
+mod Owed
 mod Passes
 mod Positions
 mod Runs

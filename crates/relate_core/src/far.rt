@@ -2,6 +2,8 @@ ghost use Rattle.std.specs.Prelude.{◌≡◌, ◌&&◌, int_le};
 ghost use Rattle.im_matrix.specs.Cells.{cell, dimension_at};
 ghost use Rattle.im_matrix.specs.declared.Dim.TheVariants as dim;
 ghost use Rattle.im_matrix.specs.declared.Loc.TheVariants as loc;
+ghost use Rattle.plane_laws.specs.Plane.{Point};
+ghost use Rattle.plane_exact.specs.Windows.{IsInWindow};
 ghost use Rattle.near_laws.specs.Near as near;
 ghost use Rattle.topo_pred.specs.Values.{matrix_of};
 ghost use Rattle.relate_core.specs.Taking.{HasTakenIn};
@@ -36,15 +38,23 @@ pub(crate) fn common_part(u: Option<Window>, v: Option<Window>) -> Option<Window
 {
     let u = u?;
     let v = v?;
-    if !u.meets(&v) {
-        return None;
+    if u.meets(&v) {
+        Some(shared(&u, &v))
+    } else {
+        None
     }
-    Some(Window {
+}
+
+/// The box of all points that two boxes hold.
+fn shared(u: &Window, v: &Window) -> Window
+    ensures holds { (p : Point) → IsInWindow u.now p → IsInWindow v.now p → IsInWindow result p }
+{
+    Window {
         low_x: u.low_x.max(v.low_x),
         low_y: u.low_y.max(v.low_y),
         high_x: u.high_x.min(v.high_x),
         high_y: u.high_y.min(v.high_y),
-    })
+    }
 }
 
 /// Takes in what the envelopes of two figures tell of what they have outside of a box, where the other figure isn't.
