@@ -1,7 +1,8 @@
 -- Taking in dimensions of cells: some and then others, one alone, and what is answered in the end.
-use Rattle.std.proofs.Common.{◌≡◌, ◌≤◌, ◌⊎◌, inl, inr, ◌∙◌, refl, sym, subst, arith, Bool, true, Option, Some, None}
+use Rattle.std.proofs.Common.{◌≡◌, ◌≤◌, ◌⊎◌, inl, inr, ◌∙◌, refl, sym, subst, arith, Bool, true, false, Option, Some, None}
 use Rattle.std.proofs.lemmas.Bool.{true≢false}
 use Rattle.std.specs.Option.{is_some}
+use Rattle.std.specs.Prelude.{IfNone}
 use Rattle.im_matrix.specs.Cells.{rank, greater, dimension_at}
 use Rattle.im_matrix.proofs.Laws.{greater-least, rank-greater, same_cell?}
 use Rattle.im_matrix.specs.declared.Cell.{Cell}
@@ -9,7 +10,7 @@ use Rattle.im_matrix.specs.declared.Dim.{Dim}
 use Rattle.im_matrix.specs.declared.Dim.TheVariants.{Empty, Zero, One, Two}
 use Rattle.im_matrix.specs.declared.Matrix.{Matrix}
 use Rattle.topo_pred.specs.declared.Progress.{Progress}
-use Rattle.topo_pred.specs.Values.{query_of, matrix_of, value_at, IsSettled, IsRaised}
+use Rattle.topo_pred.specs.Values.{query_of, matrix_of, value_at, IsSettled, IsOpen, IsRaised}
 use Rattle.relate_core.specs.Taking.{HasTakenIn, IsOne}
 
 -- ---- some and then others
@@ -70,6 +71,40 @@ taken_together First Second Both one other either p q r h k = record {
         both c d (inl s) = let x = f c d s in let y = k.kept c in omega (arith, x, y)
         both c d (inr s) = g c d s
 
+-- so of two kinds together
+pub taken_either :
+    (First Second : Cell → Dim → Type 0) → (p q r : Progress) → HasTakenIn First p q → HasTakenIn Second q r
+    → HasTakenIn (λ c d. First c d ⊎ Second c d) p r
+taken_either First Second p q r h k =
+    taken_together First Second (λ c d. First c d ⊎ Second c d) (λ c d s. inl s) (λ c d s. inr s) (λ c d s. s) p q r h k
+
+-- and what the matrix has from the first need not be taken in
+pub taken_with_known :
+    (First All : Cell → Dim → Type 0) → (p q : Progress) → ((c : Cell) (d : Dim) → First c d → All c d)
+    → ((c : Cell) (d : Dim) → All c d → First c d ⊎ (rank d ≤ rank (dimension_at (matrix_of p) c))) → HasTakenIn First p q
+    → HasTakenIn All p q
+taken_with_known First All p q one known h = record {
+  query = h.query;
+  value = h.value;
+  kept = h.kept;
+  only = λ c. only c (h.only c);
+  whole = whole h.whole;
+}
+  where
+    only : (c : Cell) → (dimension_at (matrix_of q) c ≡ dimension_at (matrix_of p) c) ⊎ First c (dimension_at (matrix_of q) c)
+        → (dimension_at (matrix_of q) c ≡ dimension_at (matrix_of p) c) ⊎ All c (dimension_at (matrix_of q) c)
+    only c (inl e) = inl e
+    only c (inr s) = inr (one c (dimension_at (matrix_of q) c) s)
+
+    whole : ((v : Bool) × IsSettled q v) ⊎ ((c : Cell) (d : Dim) → First c d → rank d ≤ rank (dimension_at (matrix_of q) c))
+        → ((v : Bool) × IsSettled q v) ⊎ ((c : Cell) (d : Dim) → All c d → rank d ≤ rank (dimension_at (matrix_of q) c))
+    whole (inl s) = inl s
+    whole (inr f) = inr (λ c d s. each c d (known c d s))
+      where
+        each : (c : Cell) (d : Dim) → First c d ⊎ (rank d ≤ rank (dimension_at (matrix_of p) c)) → rank d ≤ rank (dimension_at (matrix_of q) c)
+        each c d (inl s) = f c d s
+        each c d (inr low) = let more = h.kept c in omega (arith, low, more)
+
 -- ---- nothing
 -- where there is nothing to take in
 pub taken_nothing : (Is : Cell → Dim → Type 0) (p : Progress) → ((c : Cell) (d : Dim) → ¬ Is c d) → HasTakenIn Is p p
@@ -97,6 +132,11 @@ pub taken_where_known :
     → ((v : Bool) → r ≡ Some v → IsSettled p v) → HasTakenIn Is p p
 taken_where_known Is p (Some v) e f = taken_settled Is p v (f v refl)
 taken_where_known Is p None e f = absurd (true≢false (sym e))
+
+-- where it isn't, the query is open
+pub open_where_unknown : (p : Progress) (r : Option Bool) → is_some r ≡ false → IfNone r (IsOpen p) → IsOpen p
+open_where_unknown p (Some v) e h = absurd (true≢false e)
+open_where_unknown p None e h = h
 
 -- ---- one feed
 -- the greater of two dimensions is one of them

@@ -4,6 +4,7 @@
 
 mod edges;
 mod evaluation;
+mod far;
 mod filling;
 pub mod laws;
 mod node_sections;

@@ -1,4 +1,4 @@
-ghost use Rattle.std.specs.Prelude.{◌≡◌, ◌+◌, ◌≤◌, OnOk, All, length};
+ghost use Rattle.std.specs.Prelude.{◌≡◌, ◌+◌, ◌≤◌, OnOk, All};
 ghost use Rattle.im_matrix.specs.Cells.{cell};
 ghost use Rattle.im_matrix.specs.declared.Dim.TheVariants as dim;
 ghost use Rattle.plane_laws.specs.Plane.{Point};
@@ -11,6 +11,7 @@ ghost use Rattle.fan_order.specs.Rays.{AreRaysOf};
 ghost use Rattle.fan_label.specs.Seen.{AreSeenAt};
 ghost use Rattle.relate_core.specs.Tables.{IsListed};
 ghost use Rattle.relate_core.specs.Taking.{HasTakenIn, HasAllSections, IsOne, IsSampleOf};
+ghost use Rattle.relate_core.specs.Looks.{IsRunOf};
 
 use fan_label::{Pair, label_ray, label_sector};
 use fan_order::Fan;
@@ -21,7 +22,8 @@ use point_set::{DimLoc, Rule, Target};
 use std::alloc::Global;
 use topo_pred::Progress;
 
-/// Takes in the samples at node after node of a table, until the value is known.
+/// Takes in the samples at node after node of a table, until the value is known. Each figure is looked at once for each node that
+/// is taken out, and none is taken out when the value is known.
 ///
 /// # Errors
 /// `NoMemory`.
@@ -38,8 +40,8 @@ pub fn take_in_all<A: Target, B: Target>(
         progress.old progress.new) }
     ensures figure_a { A.figure a.new ≡ A.figure a.old }
     ensures figure_b { B.figure b.new ≡ B.figure b.old }
-    ensures looks_a { A.looks a.new ≤ A.looks a.old + length table.old }
-    ensures looks_b { B.looks b.new ≤ B.looks b.old + length table.old }
+    ensures run_a { IsRunOf (A.figure a.old) (B.figure b.old) rule table.old progress.old (A.looks a.old) (A.looks a.new) }
+    ensures run_b { IsRunOf (A.figure a.old) (B.figure b.old) rule table.old progress.old (B.looks b.old) (B.looks b.new) }
 {
     are_valid(a, b);
     while progress.known().is_none() {
@@ -117,7 +119,7 @@ fn take_in_sectors(progress: &mut Progress, fan: &Fan, at_a: DimLoc, at_b: DimLo
 }
 
 /// Takes in a cell's dimension, unless the value is known.
-fn take_in_cell(progress: &mut Progress, c: Cell, d: Dim)
+pub(crate) fn take_in_cell(progress: &mut Progress, c: Cell, d: Dim)
     ensures taken { HasTakenIn (IsOne c d) progress.old progress.new }
 {
     if progress.known().is_none() {

@@ -1,55 +1,106 @@
-use Rattle.std.proofs.Common.{◌≡◌, ◌∙◌, ap, subst}
+use Rattle.std.proofs.Common.{◌≡◌, ◌∙◌, ap}
+use Rattle.im_matrix.specs.Cells.{cell}
+use Rattle.im_matrix.specs.declared.Dim.{Dim}
+use Rattle.im_matrix.specs.declared.Loc.TheVariants.{Exterior}
 use Rattle.im_matrix.specs.declared.Matrix.{Matrix}
 use Rattle.point_set.specs.declared.figure.Figure.{Figure}
-use Rattle.point_set.specs.Samples.{IsSample, IsSampleMatrix}
 use Rattle.point_set.specs.Shape.{dimension_of}
-use Rattle.cell_laws.proofs.Cells.Matrix.{decided_by_samples}
-use Rattle.topo_pred.specs.Values.{value_of, value_at, matrix_of}
-use Rattle.relate_core.specs.Tables.{IsListed}
-use Rattle.relate_core.specs.Taking.{HasTakenIn}
-use Rattle.relate_core.proofs.Answered.{value_is, matrix_is, answer_is_matrix}
+use Rattle.topo_pred.specs.declared.Progress.{Progress}
+use Rattle.topo_pred.specs.declared.Query.{Query}
+use Rattle.topo_pred.specs.Values.{value_of, value_at}
+use Rattle.relate_core.proofs.Evaluated.{few_looks, answer_of_points, answer_of_samples, answer_of_relate}
 use Rattle.relate_core.proofs.evaluation.evaluate.Goals as goal
 
-pub returns : goal.returns
-returns g c =
-    let a : Figure = g.A.Target.figure c.args.a.now in
-    let b : Figure = g.B.Target.figure c.args.b.now in
-    let valid = c.are_valid.ensures.valid in
-    let rule = c.args.rule in
-    let query = c.args.query in
-    let entries = c.in_ok-table.table in
-    let table = c.in_ok-table.ensures.table in
-    let fresh = c.new-progress.result in
-    let last = c.take_in_all.new.progress in
-    let dim_a : c.dim.result ≡ dimension_of a = c.dim.ensures.dimension ∙ ap dimension_of c.valid.ensures.figure in
-    let dim_b : c.dim-2.result ≡ dimension_of b = c.dim-2.ensures.dimension ∙ ap dimension_of c.valid-2.ensures.figure in
-    let value : (m : Matrix) → value_at fresh m ≡ value_of query (dimension_of a) (dimension_of b) m =
-    λ m. c.new-progress.ensures.value m ∙ (λ i. value_of query (dim_a i) (dim_b i) m) in
-    let start = c.new-progress.ensures.matrix in
-    let taken : HasTakenIn (IsSample (IsListed entries) a b rule) fresh last =
-    subst (λ (f : Figure). HasTakenIn (IsSample (IsListed entries) f b rule) fresh last) c.fill.ensures.figure_a
-    (subst (λ (f : Figure). HasTakenIn (IsSample (IsListed entries) (g.A.Target.figure c.fill.new.a) f rule) fresh last)
-    c.fill.ensures.figure_b c.in_ok-take_in_all.ensures.taken) in
-    let samples : (m : Matrix) → IsSampleMatrix a b rule m → c.finish.result ≡ value_of query (dimension_of a) (dimension_of b) m =
-    λ m is.
-    c.finish.ensures.value
-    ∙ value_is a b valid rule entries table query (dimension_of a) (dimension_of b) fresh last value start taken m is in
-    let decided = decided_by_samples a b valid rule in
-    record {
-      points = record {
-        m = decided.matrix;
-        of_points = decided.of_points;
-        answer_is = samples decided.matrix decided.of_samples;
-      };
-      samples = samples;
-      matrix = λ asks. record {
-        m = matrix_of last;
-        of_samples =
-            matrix_is a b valid rule entries table query (dimension_of a) (dimension_of b) fresh last value start taken asks;
-        answer_is =
-            c.finish.ensures.value
-            ∙ answer_is_matrix a b valid rule entries table query (dimension_of a) (dimension_of b) fresh last value start taken asks;
-      };
-      figure_a = c.take_in_all.ensures.figure_a ∙ c.fill.ensures.figure_a;
-      figure_b = c.take_in_all.ensures.figure_b ∙ c.fill.ensures.figure_b;
-    }
+-- the value of a query on two figures' dimensions, by other names
+value_as_asked :
+    (a b : Figure) (query : Query) (dim_a dim_b : Dim) → dim_a ≡ dimension_of a → dim_b ≡ dimension_of b → (p : Progress)
+    → ((m : Matrix) → value_at p m ≡ value_of query dim_a dim_b m) → (m : Matrix)
+    → value_at p m ≡ value_of query (dimension_of a) (dimension_of b) m
+value_as_asked a b query dim_a dim_b is_a is_b p value m = value m ∙ (λ i. value_of query (is_a i) (is_b i) m)
+
+pub take_in_far-requires : goal.take_in_far-requires
+take_in_far-requires g c = record { start = c.new-progress.ensures.matrix (cell Exterior Exterior) }
+
+pub returns-in_err-take_in_near-clause-looks_a : goal.returns-in_err-take_in_near-clause-looks_a
+returns-in_err-take_in_near-clause-looks_a g c =
+    few_looks (g.A.Target.figure c.args.a.now) (g.B.Target.figure c.args.b.now) c.are_valid.ensures.valid c.args.rule c.args.query
+    c.extent-x.result c.extent-y.result c.extent-x.ensures.extent c.extent-y.ensures.extent c.frame.result c.frame-2.result
+    c.common_part-w.result c.frame.ensures.frame c.frame-2.ensures.frame c.common_part-w.ensures.common c.new-progress.result
+    c.take_in_far.new.progress
+    (value_as_asked (g.A.Target.figure c.args.a.now) (g.B.Target.figure c.args.b.now) c.args.query c.dim.result c.dim-2.result
+    (c.dim.ensures.dimension ∙ ap dimension_of c.valid.ensures.figure)
+    (c.dim-2.ensures.dimension ∙ ap dimension_of c.valid-2.ensures.figure) c.new-progress.result c.new-progress.ensures.value)
+    c.new-progress.ensures.matrix c.take_in_far.ensures.taken (g.A.Target.looks c.args.a.now)
+    (g.A.Target.looks c.take_in_near.new.a) c.take_in_near.ensures.looks_a
+
+pub returns-clause-looks_a : goal.returns-clause-looks_a
+returns-clause-looks_a g c =
+    few_looks (g.A.Target.figure c.args.a.now) (g.B.Target.figure c.args.b.now) c.are_valid.ensures.valid c.args.rule c.args.query
+    c.extent-x.result c.extent-y.result c.extent-x.ensures.extent c.extent-y.ensures.extent c.frame.result c.frame-2.result
+    c.common_part-w.result c.frame.ensures.frame c.frame-2.ensures.frame c.common_part-w.ensures.common c.new-progress.result
+    c.take_in_far.new.progress
+    (value_as_asked (g.A.Target.figure c.args.a.now) (g.B.Target.figure c.args.b.now) c.args.query c.dim.result c.dim-2.result
+    (c.dim.ensures.dimension ∙ ap dimension_of c.valid.ensures.figure)
+    (c.dim-2.ensures.dimension ∙ ap dimension_of c.valid-2.ensures.figure) c.new-progress.result c.new-progress.ensures.value)
+    c.new-progress.ensures.matrix c.take_in_far.ensures.taken (g.A.Target.looks c.args.a.now)
+    (g.A.Target.looks c.take_in_near.new.a) c.take_in_near.ensures.looks_a
+
+pub returns-in_err-take_in_near-clause-looks_b : goal.returns-in_err-take_in_near-clause-looks_b
+returns-in_err-take_in_near-clause-looks_b g c =
+    few_looks (g.A.Target.figure c.args.a.now) (g.B.Target.figure c.args.b.now) c.are_valid.ensures.valid c.args.rule c.args.query
+    c.extent-x.result c.extent-y.result c.extent-x.ensures.extent c.extent-y.ensures.extent c.frame.result c.frame-2.result
+    c.common_part-w.result c.frame.ensures.frame c.frame-2.ensures.frame c.common_part-w.ensures.common c.new-progress.result
+    c.take_in_far.new.progress
+    (value_as_asked (g.A.Target.figure c.args.a.now) (g.B.Target.figure c.args.b.now) c.args.query c.dim.result c.dim-2.result
+    (c.dim.ensures.dimension ∙ ap dimension_of c.valid.ensures.figure)
+    (c.dim-2.ensures.dimension ∙ ap dimension_of c.valid-2.ensures.figure) c.new-progress.result c.new-progress.ensures.value)
+    c.new-progress.ensures.matrix c.take_in_far.ensures.taken (g.B.Target.looks c.args.b.now)
+    (g.B.Target.looks c.take_in_near.new.b) c.take_in_near.ensures.looks_b
+
+pub returns-clause-looks_b : goal.returns-clause-looks_b
+returns-clause-looks_b g c =
+    few_looks (g.A.Target.figure c.args.a.now) (g.B.Target.figure c.args.b.now) c.are_valid.ensures.valid c.args.rule c.args.query
+    c.extent-x.result c.extent-y.result c.extent-x.ensures.extent c.extent-y.ensures.extent c.frame.result c.frame-2.result
+    c.common_part-w.result c.frame.ensures.frame c.frame-2.ensures.frame c.common_part-w.ensures.common c.new-progress.result
+    c.take_in_far.new.progress
+    (value_as_asked (g.A.Target.figure c.args.a.now) (g.B.Target.figure c.args.b.now) c.args.query c.dim.result c.dim-2.result
+    (c.dim.ensures.dimension ∙ ap dimension_of c.valid.ensures.figure)
+    (c.dim-2.ensures.dimension ∙ ap dimension_of c.valid-2.ensures.figure) c.new-progress.result c.new-progress.ensures.value)
+    c.new-progress.ensures.matrix c.take_in_far.ensures.taken (g.B.Target.looks c.args.b.now)
+    (g.B.Target.looks c.take_in_near.new.b) c.take_in_near.ensures.looks_b
+
+pub returns-clause-points : goal.returns-clause-points
+returns-clause-points g c =
+    answer_of_points (g.A.Target.figure c.args.a.now) (g.B.Target.figure c.args.b.now) c.are_valid.ensures.valid c.args.rule c.args.query
+    c.extent-x.result c.extent-y.result c.extent-x.ensures.extent c.extent-y.ensures.extent c.frame.result c.frame-2.result
+    c.common_part-w.result c.frame.ensures.frame c.frame-2.ensures.frame c.common_part-w.ensures.common c.new-progress.result
+    c.take_in_far.new.progress
+    (value_as_asked (g.A.Target.figure c.args.a.now) (g.B.Target.figure c.args.b.now) c.args.query c.dim.result c.dim-2.result
+    (c.dim.ensures.dimension ∙ ap dimension_of c.valid.ensures.figure)
+    (c.dim-2.ensures.dimension ∙ ap dimension_of c.valid-2.ensures.figure) c.new-progress.result c.new-progress.ensures.value)
+    c.new-progress.ensures.matrix c.take_in_far.ensures.taken c.take_in_near.new.progress
+    c.in_ok-take_in_near.ensures.taken c.finish.result c.finish.ensures.value
+
+pub returns-clause-samples : goal.returns-clause-samples
+returns-clause-samples g c =
+    answer_of_samples (g.A.Target.figure c.args.a.now) (g.B.Target.figure c.args.b.now) c.are_valid.ensures.valid c.args.rule c.args.query
+    c.extent-x.result c.extent-y.result c.extent-x.ensures.extent c.extent-y.ensures.extent c.frame.result c.frame-2.result
+    c.common_part-w.result c.frame.ensures.frame c.frame-2.ensures.frame c.common_part-w.ensures.common c.new-progress.result
+    c.take_in_far.new.progress
+    (value_as_asked (g.A.Target.figure c.args.a.now) (g.B.Target.figure c.args.b.now) c.args.query c.dim.result c.dim-2.result
+    (c.dim.ensures.dimension ∙ ap dimension_of c.valid.ensures.figure)
+    (c.dim-2.ensures.dimension ∙ ap dimension_of c.valid-2.ensures.figure) c.new-progress.result c.new-progress.ensures.value)
+    c.new-progress.ensures.matrix c.take_in_far.ensures.taken c.take_in_near.new.progress
+    c.in_ok-take_in_near.ensures.taken c.finish.result c.finish.ensures.value
+
+pub returns-clause-matrix : goal.returns-clause-matrix
+returns-clause-matrix g c =
+    answer_of_relate (g.A.Target.figure c.args.a.now) (g.B.Target.figure c.args.b.now) c.are_valid.ensures.valid c.args.rule c.args.query
+    c.extent-x.result c.extent-y.result c.extent-x.ensures.extent c.extent-y.ensures.extent c.frame.result c.frame-2.result
+    c.common_part-w.result c.frame.ensures.frame c.frame-2.ensures.frame c.common_part-w.ensures.common c.new-progress.result
+    c.take_in_far.new.progress
+    (value_as_asked (g.A.Target.figure c.args.a.now) (g.B.Target.figure c.args.b.now) c.args.query c.dim.result c.dim-2.result
+    (c.dim.ensures.dimension ∙ ap dimension_of c.valid.ensures.figure)
+    (c.dim-2.ensures.dimension ∙ ap dimension_of c.valid-2.ensures.figure) c.new-progress.result c.new-progress.ensures.value)
+    c.new-progress.ensures.matrix c.take_in_far.ensures.taken c.take_in_near.new.progress
+    c.in_ok-take_in_near.ensures.taken c.finish.result c.finish.ensures.value

@@ -7,8 +7,8 @@ use Rattle.point_set.specs.Samples.{IsSample, IsSampleAt}
 use Rattle.node_table.specs.declared.entry.Entry.{Entry}
 use Rattle.relate_core.specs.Tables.{IsListed}
 use Rattle.relate_core.specs.Taking.{HasTakenIn, HasAllSections}
-use Rattle.relate_core.proofs.Taking.{taken_where_known}
-use Rattle.relate_core.proofs.Visits.{HasVisited, visited_none, visited_more, visited_all, visited_enough}
+use Rattle.relate_core.proofs.Taking.{taken_where_known, open_where_unknown}
+use Rattle.relate_core.proofs.Runs.{HasVisited, visited_none, visited_more, visited_all, visited_enough, run_so_far, run_and_next}
 use Rattle.relate_core.proofs.samples.take_in_all.Goals as goal
 
 pub loop-alloc-init : goal.loop-alloc-init
@@ -58,7 +58,8 @@ loop-alloc-preserved g c =
           visited_more a b c.are_valid.ensures.valid c.args.rule old now e c.args.progress.now c.loop-alloc.progress
           c.take_in_node.new.progress
           (subst (λ (t : List Entry). HasVisited a b c.args.rule old t c.args.progress.now c.loop-alloc.progress) c.in-Some.ensures.first
-          invariant.visited) taken_here;
+          invariant.visited) (open_where_unknown c.loop-alloc.progress c.known.result (c.is_none.ensures ∙ ap not c.loop-alloc-test.true)
+          c.known.ensures.open) taken_here;
     }
 
 pub returns-in-None-clause-taken : goal.returns-in-None-clause-taken
@@ -79,3 +80,57 @@ returns-clause-taken g c =
     c.loop-alloc.invariant.visited
     (taken_where_known (IsSample (IsListed old) a b c.args.rule) c.loop-alloc.progress c.known.result
     (c.is_none.ensures ∙ ap not c.loop-alloc-test.false) (λ v e. (c.known.ensures.settled v).0 e))
+
+pub returns-in_err-take_in_node-in-Some-clause-run_a : goal.returns-in_err-take_in_node-in-Some-clause-run_a
+returns-in_err-take_in_node-in-Some-clause-run_a g c =
+    let a : Figure = g.A.Target.figure c.args.a.now in
+    let b : Figure = g.B.Target.figure c.args.b.now in
+    let old = c.args.table.now in
+    let e = c.in-Some.entry in
+    let now = c.take_next.new.self in
+    let count : length c.loop-alloc.table ≡ length (e ∷ now) = ap length c.in-Some.ensures.first in
+    run_and_next a b c.are_valid.ensures.valid c.args.rule old now e c.args.progress.now c.loop-alloc.progress
+    (subst (λ (t : List Entry). HasVisited a b c.args.rule old t c.args.progress.now c.loop-alloc.progress) c.in-Some.ensures.first
+    c.loop-alloc.invariant.visited)
+    (open_where_unknown c.loop-alloc.progress c.known.result (c.is_none.ensures ∙ ap not c.loop-alloc-test.true) c.known.ensures.open)
+    (g.A.Target.looks c.args.a.now) (g.A.Target.looks c.take_in_node.new.a)
+    (let more = c.take_in_node.ensures.looks_a in let before = c.loop-alloc.invariant.looks_a in omega (arith, more, before, count))
+
+pub returns-in_err-take_in_node-in-Some-clause-run_b : goal.returns-in_err-take_in_node-in-Some-clause-run_b
+returns-in_err-take_in_node-in-Some-clause-run_b g c =
+    let a : Figure = g.A.Target.figure c.args.a.now in
+    let b : Figure = g.B.Target.figure c.args.b.now in
+    let old = c.args.table.now in
+    let e = c.in-Some.entry in
+    let now = c.take_next.new.self in
+    let count : length c.loop-alloc.table ≡ length (e ∷ now) = ap length c.in-Some.ensures.first in
+    run_and_next a b c.are_valid.ensures.valid c.args.rule old now e c.args.progress.now c.loop-alloc.progress
+    (subst (λ (t : List Entry). HasVisited a b c.args.rule old t c.args.progress.now c.loop-alloc.progress) c.in-Some.ensures.first
+    c.loop-alloc.invariant.visited)
+    (open_where_unknown c.loop-alloc.progress c.known.result (c.is_none.ensures ∙ ap not c.loop-alloc-test.true) c.known.ensures.open)
+    (g.B.Target.looks c.args.b.now) (g.B.Target.looks c.take_in_node.new.b)
+    (let more = c.take_in_node.ensures.looks_b in let before = c.loop-alloc.invariant.looks_b in omega (arith, more, before, count))
+
+pub returns-in-None-clause-run_a : goal.returns-in-None-clause-run_a
+returns-in-None-clause-run_a g c =
+    run_so_far (g.A.Target.figure c.args.a.now) (g.B.Target.figure c.args.b.now) c.are_valid.ensures.valid c.args.rule c.args.table.now
+    c.loop-alloc.table c.args.progress.now c.loop-alloc.progress c.loop-alloc.invariant.visited (g.A.Target.looks c.args.a.now)
+    (g.A.Target.looks c.loop-alloc.a) c.loop-alloc.invariant.looks_a
+
+pub returns-in-None-clause-run_b : goal.returns-in-None-clause-run_b
+returns-in-None-clause-run_b g c =
+    run_so_far (g.A.Target.figure c.args.a.now) (g.B.Target.figure c.args.b.now) c.are_valid.ensures.valid c.args.rule c.args.table.now
+    c.loop-alloc.table c.args.progress.now c.loop-alloc.progress c.loop-alloc.invariant.visited (g.B.Target.looks c.args.b.now)
+    (g.B.Target.looks c.loop-alloc.b) c.loop-alloc.invariant.looks_b
+
+pub returns-clause-run_a : goal.returns-clause-run_a
+returns-clause-run_a g c =
+    run_so_far (g.A.Target.figure c.args.a.now) (g.B.Target.figure c.args.b.now) c.are_valid.ensures.valid c.args.rule c.args.table.now
+    c.loop-alloc.table c.args.progress.now c.loop-alloc.progress c.loop-alloc.invariant.visited (g.A.Target.looks c.args.a.now)
+    (g.A.Target.looks c.loop-alloc.a) c.loop-alloc.invariant.looks_a
+
+pub returns-clause-run_b : goal.returns-clause-run_b
+returns-clause-run_b g c =
+    run_so_far (g.A.Target.figure c.args.a.now) (g.B.Target.figure c.args.b.now) c.are_valid.ensures.valid c.args.rule c.args.table.now
+    c.loop-alloc.table c.args.progress.now c.loop-alloc.progress c.loop-alloc.invariant.visited (g.B.Target.looks c.args.b.now)
+    (g.B.Target.looks c.loop-alloc.b) c.loop-alloc.invariant.looks_b

@@ -1,6 +1,6 @@
 -- The samples at the nodes taken out so far have been taken in, and each of these nodes was looked at once.
 use Rattle.std.proofs.Common.{◌≡◌, ◌+◌, ◌≤◌, length}
-use Rattle.relate_core.proofs.Visits.{HasVisited}
+use Rattle.relate_core.proofs.Runs.{HasVisited}
 use Rattle.relate_core.proofs.samples.take_in_all.Given as goal
 
 abbrev pub invariant-loop-alloc : goal.invariant-loop-alloc
