@@ -35,7 +35,7 @@ use Rattle.seg_cross.specs.declared.answer.Meet.TheVariants.{At}
 use Rattle.valid_laws.specs.Entering.{edges_in, Enters, IsClean, IsHeldOut, IsSimpleRing}
 use Rattle.valid_laws.proofs.Edges.Sharing.{between_on}
 use Rattle.valid_laws.proofs.Entering.Walk.{some_place, walk}
-use Rattle.area_entry.specs.Entries.{BeginsIn, IsUnshared, RunsInto, RunsOn, RunsOnFrom, RunsOnFromRow}
+use Rattle.area_entry.specs.Entries.{BeginsIn, IsUnshared, RunsInto, RunsOn, RunsOnAtPlace, RunsOnFrom, RunsOnFromRow, SomeRunsOnFrom}
 use Rattle.area_entry.specs.Grounds.{AreRowsOf}
 use Rattle.area_entry.proofs.Bends.{not_so}
 use Rattle.area_entry.proofs.RowPlaces.{HasRow, row_there, row_of_edge, row_of_seg, seg_there}
@@ -118,6 +118,44 @@ module _ (area : Area) (rows : List Edge) (are_rows : AreRowsOf area rows) (part
           let is = slice_get_read rows (length rows) a.0 a.1 refl a.2 (sym a.3) in
           let there = near_row e rows places near a.0 a.1 is a.4.v a.4.runs.on a.4.there in
           (there.0, a.0, there.1, there.2, record { row = a.1; row_is = is; from = a.4 })
+
+-- ---- from an edge of the area, over the edges of a ring
+-- it is enough to look at the ring's edges near that edge
+pub by_ring_places : (ring : List Edge) (area : Area) (part : Loc) (other : Edge) (places : List ℕ) → AreNear (IsOnEdge other.seg) ring places
+    → (b : Bool) → (IsTrue b ↔ Any (RunsOnAtPlace ring other.seg area part) places) → (IsTrue b ↔ SomeRunsOnFrom ring area part other)
+by_ring_places ring area part other places near b decides = (λ t. onto (decides.0 t), λ r. decides.1 (back r))
+  where
+    onto : Any (RunsOnAtPlace ring other.seg area part) places → SomeRunsOnFrom ring area part other
+    onto a =
+        let at = a.4 in (
+          a.1,
+          at.row,
+          slice_get_within ring a.1 at.row at.row_is,
+          get_or_from_slice_get ring a.1 at.row at.row at.row_is,
+          at.from,
+        )
+
+    back : SomeRunsOnFrom ring area part other → Any (RunsOnAtPlace ring other.seg area part) places
+    back a =
+        let is = slice_get_read ring (length ring) a.0 a.1 refl a.2 (sym a.3) in
+        let there = near_row other.seg ring places near a.0 a.1 is a.4.v a.4.there a.4.runs.on in
+        (there.0, a.0, there.1, there.2, record { row = a.1; row_is = is; from = a.4 })
+
+-- some edge of the ring runs on from some edge of the area exactly where some edge of the ring runs on from the area's edges
+pub by_rows : (area : Area) (rows : List Edge) → AreRowsOf area rows → (part : Loc) (ring : List Edge) (b : Bool)
+    → (IsTrue b ↔ Any (SomeRunsOnFrom ring area part) rows) → (IsTrue b ↔ Any (λ edge. RunsInto area part edge.seg) ring)
+by_rows area rows are_rows part ring b decides = (λ t. onto (decides.0 t), λ r. decides.1 (back r))
+  where
+    onto : Any (SomeRunsOnFrom ring area part) rows → Any (λ edge. RunsInto area part edge.seg) ring
+    onto a =
+        let here = a.4 in
+        let is = slice_get_read rows (length rows) a.0 a.1 refl a.2 (sym a.3) in
+        (here.0, here.1, here.2, here.3, from_row area rows are_rows part here.1.seg a.0 a.1 is here.4)
+
+    back : Any (λ edge. RunsInto area part edge.seg) ring → Any (SomeRunsOnFrom ring area part) rows
+    back a =
+        let from = some_row area rows are_rows part a.1.seg a.4 in
+        (from.0, from.1, from.2, from.3, (a.0, a.1, a.2, a.3, from.4))
 
 -- ---- the ring
 -- its first edge begins at its first position

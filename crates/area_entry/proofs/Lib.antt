@@ -1,6 +1,7 @@
 mod AreaFans
 mod Bends
 mod Entries
+pub mod Laws
 mod Loops
 mod Overlaps
 mod PlacedRows

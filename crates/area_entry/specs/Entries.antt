@@ -1,5 +1,6 @@
 -- Where an edge runs on from a point into a part of an area.
 use Rattle.std.specs.Prelude.{◌≡◌, ℕ, true, List}
+use Rattle.std.specs.List.{Any}
 use Rattle.im_matrix.specs.declared.Loc.{Loc}
 use Rattle.plane_exact.specs.Places.{point_of}
 use Rattle.plane_exact.specs.declared.point.Pt.{Pt}
@@ -33,6 +34,16 @@ pub record RunsOnFromRow (e : Seg) (rows : List Edge) (area : Area) (part : Loc)
   pub row : Edge
   pub row_is : IsAtPlace rows place row
   pub from : RunsOnFrom e row.seg area part
+
+-- The edge of the row at a place runs on so from a point of another edge.
+pub record RunsOnAtPlace (rows : List Edge) (f : Seg) (area : Area) (part : Loc) (place : ℕ) : Type 0 where
+  pub row : Edge
+  pub row_is : IsAtPlace rows place row
+  pub from : RunsOnFrom row.seg f area part
+
+-- The edge of some row runs on so from a point of the edge of another row.
+abbrev pub SomeRunsOnFrom : List Edge → Area → Loc → Edge → Type 0
+SomeRunsOnFrom rows area part other = Any (λ row. RunsOnFrom row.seg other.seg area part) rows
 
 -- The same from some point of the area's edges.
 pub record RunsInto (area : Area) (part : Loc) (e : Seg) : Type 0 where

@@ -1,6 +1,6 @@
 ghost use Rattle.std.specs.Prelude.{◌≡◌, ◌≢◌, ◌↔◌, ◌-ℤ◌, ◌<◌, ℕ, true, IsTrue, IfOk, All, length, map, List};
 ghost use Rattle.std.specs.List.{Any};
-ghost use Rattle.area_entry.specs.Entries.{BeginsIn, IsUnshared, RunsInto, RunsOn, RunsOnFrom, RunsOnFromRow};
+ghost use Rattle.area_entry.specs.Entries.{BeginsIn, IsUnshared, RunsInto, RunsOn, RunsOnAtPlace, RunsOnFrom, RunsOnFromRow, SomeRunsOnFrom};
 ghost use Rattle.area_entry.specs.Grounds.{AreRowsOf};
 ghost use Rattle.area_entry.specs.RowSections.{AreOfOneArea, IsRowSound};
 ghost use Rattle.im_matrix.specs.declared.Loc.TheVariants as loc;
@@ -58,8 +58,29 @@ fn begins_in(ring: &NearRows, first: Loc, part: Loc) -> bool
     first == part && ring.rows().len() > 0
 }
 
-/// Whether an edge of the ring runs on into the part, from a point of the area's edges.
+/// Whether an edge of the ring runs on into the part, from a point of the area's edges. The shorter of the two lists of edges is
+/// walked, and the index of the other one is asked.
 fn runs_into(alloc: Global, ring: &NearRows, rows: &NearRows, part: Loc) -> Result<bool, NoMemory>
+    requires ring_sound { All IsRowSound ring.now }
+    requires sound { All IsRowSound rows.now }
+    requires one_area { AreOfOneArea rows.now }
+    ensures runs { IfOk result (λ b. (area : Area) → IsClean area → AreRowsOf area rows.now
+        → All (λ row. IsUnshared area row.seg) ring.now → IsTrue b ↔ Any (λ row. RunsInto area part row.seg) ring.now) }
+{
+    if ring.rows().len() <= rows.rows().len() {
+        some_edge_runs_into(alloc, ring, rows, part)
+    } else {
+        runs_from_some_row(alloc, ring, rows, part)
+    }
+}
+
+/// Whether an edge of the ring runs on into the part, from a point of the area's edges, by a walk over the ring's edges.
+fn some_edge_runs_into(
+    alloc: Global,
+    ring: &NearRows,
+    rows: &NearRows,
+    part: Loc,
+) -> Result<bool, NoMemory>
     requires ring_sound { All IsRowSound ring.now }
     requires sound { All IsRowSound rows.now }
     requires one_area { AreOfOneArea rows.now }
@@ -125,6 +146,94 @@ fn runs_on_from_row(
         → IsTrue b ↔ RunsOnFromRow edge.now.seg rows.now area part place) }
 {
     runs_on_from(alloc, edge, rows.at(place), rows, part)
+}
+
+/// Whether an edge of the ring runs on into the part, from a point of the area's edges, by a walk over the area's edges.
+fn runs_from_some_row(
+    alloc: Global,
+    ring: &NearRows,
+    rows: &NearRows,
+    part: Loc,
+) -> Result<bool, NoMemory>
+    requires ring_sound { All IsRowSound ring.now }
+    requires sound { All IsRowSound rows.now }
+    requires one_area { AreOfOneArea rows.now }
+    ensures runs { IfOk result (λ b. (area : Area) → IsClean area → AreRowsOf area rows.now
+        → All (λ row. IsUnshared area row.seg) ring.now → IsTrue b ↔ Any (SomeRunsOnFrom ring.now area part) rows.now) }
+{
+    for row in rows.rows().as_slice() {
+        if some_runs_on_from(alloc, ring, row, rows, part)? {
+            return Ok(true);
+        }
+    }
+    Ok(false)
+}
+
+/// Whether an edge of the ring runs on into the part, from its point in common with one of the area's edges.
+fn some_runs_on_from(
+    alloc: Global,
+    ring: &NearRows,
+    row: &Edge,
+    rows: &NearRows,
+    part: Loc,
+) -> Result<bool, NoMemory>
+    requires ring_sound { All IsRowSound ring.now }
+    requires row_sound { IsRowSound row.now }
+    requires sound { All IsRowSound rows.now }
+    requires one_area { AreOfOneArea rows.now }
+    ensures runs { IfOk result (λ b. (area : Area) → IsClean area → AreRowsOf area rows.now
+        → All (λ row. IsUnshared area row.seg) ring.now → (place : ℕ) → IsAtPlace rows.now place row.now
+        → IsTrue b ↔ SomeRunsOnFrom ring.now area part row.now) }
+{
+    let places = ring.places_near(alloc, row.seg)?;
+    some_near_runs_on_from(alloc, ring, &places, row, rows, part)
+}
+
+/// Whether one of the ring's edges at some places runs on into the part, from its point in common with one of the area's edges.
+fn some_near_runs_on_from(
+    alloc: Global,
+    ring: &NearRows,
+    places: &PlaceList,
+    row: &Edge,
+    rows: &NearRows,
+    part: Loc,
+) -> Result<bool, NoMemory>
+    requires ring_sound { All IsRowSound ring.now }
+    requires places { All (λ place. place < length ring.now) places.now }
+    requires row_sound { IsRowSound row.now }
+    requires sound { All IsRowSound rows.now }
+    requires one_area { AreOfOneArea rows.now }
+    ensures runs { IfOk result (λ b. (area : Area) → IsClean area → AreRowsOf area rows.now
+        → All (λ row. IsUnshared area row.seg) ring.now → (place : ℕ) → IsAtPlace rows.now place row.now
+        → IsTrue b ↔ Any (RunsOnAtPlace ring.now row.now.seg area part) places.now) }
+{
+    for place in places.as_slice() {
+        if runs_on_at_place(alloc, ring, *place, row, rows, part)? {
+            return Ok(true);
+        }
+    }
+    Ok(false)
+}
+
+/// Whether the ring's edge at a place runs on into the part, from its point in common with one of the area's edges.
+fn runs_on_at_place(
+    alloc: Global,
+    ring: &NearRows,
+    place: u32,
+    row: &Edge,
+    rows: &NearRows,
+    part: Loc,
+) -> Result<bool, NoMemory>
+    requires ring_sound { All IsRowSound ring.now }
+    requires place { place < length ring.now }
+    requires row_sound { IsRowSound row.now }
+    requires sound { All IsRowSound rows.now }
+    requires one_area { AreOfOneArea rows.now }
+    ensures runs { IfOk result (λ b. (area : Area) → IsClean area → AreRowsOf area rows.now
+        → All (λ row. IsUnshared area row.seg) ring.now → (at : ℕ) → IsAtPlace rows.now at row.now
+        → IsTrue b ↔ RunsOnAtPlace ring.now row.now.seg area part place) }
+{
+    runs_on_from(alloc, ring.at(place), row, rows, part)
 }
 
 /// Whether an edge runs on into the part, from its point in common with one of the area's edges.

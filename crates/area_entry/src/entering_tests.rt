@@ -6,7 +6,7 @@ ghost use Rattle.point_set.specs.Edges.{area_of};
 use crate::entering::enters;
 use crate::near_rows::NearRows;
 use im_matrix::{Loc, Which};
-use plane_exact::{NoMemory, Node, Pt, Seg, in_limit};
+use plane_exact::{MOST_POSITIONS, NoMemory, Node, Pt, Seg, in_limit};
 use point_set::{Edge, EdgeRows, Hand, Owner};
 use std::alloc::Global;
 use std::process::Abort;
@@ -84,12 +84,14 @@ fn assert_enters(
 ) -> Result<(), Fail> {
     let ring = rows_of(alloc, ring)?;
     assert!(rt; are_sound(&ring));
+    assert!(rt; ring.len() <= MOST_POSITIONS);
     let mut rows = EdgeRows::new(alloc);
     for (positions, hand) in rings {
         add_ring(&mut rows, positions, *hand)?;
     }
     assert!(rt; are_sound(&rows));
     assert!(rt; are_of_first(&rows));
+    assert!(rt; rows.len() <= MOST_POSITIONS);
     let ring = NearRows::new(alloc, ring)?;
     let rows = NearRows::new(alloc, rows)?;
     let inside = enters(alloc, &ring, &rows, first, Loc::Interior)?;
@@ -201,6 +203,7 @@ fn sections_of_squares_that_share_a_corner(rt: HostRuntime) -> Result<(), Fail> 
         Hand::Right,
     )?;
     assert!(rt; are_sound(&rows));
+    assert!(rt; rows.len() <= MOST_POSITIONS);
     let rows = NearRows::new(rt.alloc(), rows)?;
     let corner = rows.sections_at(rt.alloc(), &Node::at_point(Pt { x: 4, y: 4 }))?;
     let mut found = Vec::new(rt.alloc());

@@ -4,7 +4,7 @@ ghost use Rattle.area_entry.specs.RowSections.{segs_of_rows};
 use crate::sections::sections_at;
 use edge_index::EdgeIndex;
 use fan_order::SectionList;
-use plane_exact::{MOST_POSITIONS, NoMemory, Node, PlaceList, Seg, SegList, Window};
+use plane_exact::{NoMemory, Node, PlaceList, Seg, SegList, Window};
 use point_set::{Edge, EdgeRows};
 use std::alloc::Global;
 use std::marker::Model;
@@ -29,7 +29,7 @@ impl Model for NearRows {
 }
 
 impl NearRows {
-    ghost use Rattle.std.specs.Prelude.{◌≡◌, ◌<◌, length, All, IfOk, OnOk, slice_get, Some};
+    ghost use Rattle.std.specs.Prelude.{◌≡◌, ◌<◌, ◌≤◌, length, All, IfOk, OnOk, slice_get, Some};
     ghost use Rattle.fan_order.specs.Rays.{IsShort};
     ghost use Rattle.area_entry.specs.RowSections.{AreNear, AreSectionsOfRows, IsRowSound};
     ghost use Rattle.plane_exact.specs.NodePoints.{point_at};
@@ -38,13 +38,11 @@ impl NearRows {
     /// Makes an index of rows.
     ///
     /// # Errors
-    /// `NoMemory`, also where there are more than 1,048,576 rows: no index has room for them.
+    /// `NoMemory`.
     pub fn new(alloc: Global, rows: EdgeRows) -> Result<NearRows, NoMemory>
+        requires few { length rows ≤ 1048576 }
         ensures rows { IfOk result (λ near. near ≡ rows) }
     {
-        if rows.len() > MOST_POSITIONS {
-            return Err(NoMemory);
-        }
         let segs = segs_of(alloc, &rows)?;
         let index = EdgeIndex::build(alloc, segs)?;
         Ok(NearRows { rows, index })
@@ -81,7 +79,7 @@ impl NearRows {
     ///
     /// # Errors
     /// `NoMemory`.
-    pub(crate) fn places_near(&self, alloc: Global, e: Seg) -> Result<PlaceList, NoMemory>
+    pub fn places_near(&self, alloc: Global, e: Seg) -> Result<PlaceList, NoMemory>
         ensures near { IfOk result (AreNear (IsOnEdge e) self.now) }
     {
         let mut places = PlaceList::new(alloc);

@@ -1,17 +1,13 @@
 -- The clauses on holes and on areas by what edges enter.
-use Rattle.std.proofs.Common.{◌≡◌, ◌⊎◌, inl, inr, ℕ, suc, ◌<◌, Bool, true, false, List, length, refl, sym, subst, arith, ◌∙◌, ap}
+use Rattle.std.proofs.Common.{◌≡◌, ◌⊎◌, inl, inr, ℕ, suc, ◌<◌, Bool, true, false, List, length, refl, sym, subst, arith, ◌∙◌}
 use Rattle.std.specs.Prelude.{IsTrue, ◌↔◌}
-use Rattle.std.specs.List.{All}
 use Rattle.std.proofs.lemmas.Option.{slice_get_within}
 use Rattle.im_matrix.specs.declared.Loc.{Loc}
 use Rattle.plane_exact.specs.declared.point.Pt.{Pt}
-use Rattle.plane_exact.specs.declared.point.Seg.{Seg}
 use Rattle.point_set.specs.declared.figure.Area.{Area}
-use Rattle.point_set.specs.declared.figure.Figure.{Figure}
-use Rattle.point_set.specs.Location.{rings_of, edges_of_rings}
+use Rattle.point_set.specs.Location.{rings_of}
 use Rattle.point_set.specs.Rings.{edges_of}
-use Rattle.point_set.specs.Shape.{IsAreaShaped}
-use Rattle.point_set.specs.Validity.{IsAtPlace, CrossesItself, EdgesShareSegment, RingsShareSegment, HasHoleOutside, HasHolesThatOverlap, AreasShareSegment, HasTooFewPoints}
+use Rattle.point_set.specs.Validity.{IsAtPlace, CrossesItself, EdgesShareSegment, RingsShareSegment, HasHoleOutside, HasHolesThatOverlap, AreasShareSegment}
 use Rattle.figure_laws.proofs.Edges.Owners.{ring_edge}
 use Rattle.figure_laws.proofs.Lists.Places.{some_same, all_at}
 use Rattle.valid_laws.specs.Entering.{edges_in, Enters, IsSimpleRing, LeavesShell, AreBothInside}

@@ -1,14 +1,11 @@
 -- Areas of a figure and the earlier ones of their group.
-use Rattle.std.proofs.Common.{◌≡◌, ◌⊎◌, inl, inr, ℕ, ◌+◌, ◌<◌, ◌≤◌, List, [], ◌∷◌, ◌++◌, length, refl, sym, ◌∙◌, subst, subst₂, ap, arith}
-use Rattle.std.specs.List.{All}
+use Rattle.std.proofs.Common.{◌≡◌, ◌⊎◌, inl, inr, ℕ, ◌+◌, ◌<◌, ◌≤◌, List, [], ◌∷◌, ◌++◌, length, refl, sym, ◌∙◌, subst, subst₂, ap}
 use Rattle.std.proofs.lemmas.Option.{none-some}
-use Rattle.plane_exact.specs.declared.point.Pt.{Pt}
 use Rattle.point_set.specs.declared.figure.Area.{Area}
 use Rattle.point_set.specs.declared.figure.Figure.{Figure}
-use Rattle.point_set.specs.Shape.{IsAreaShaped, IsWellShaped}
-use Rattle.point_set.specs.Validity.{IsAtPlace, SomeArea, SomeEarlier, SomeRing, AreasShareSegment, AreasOverlap, HasTooFewPoints, CrossesItself, RingsShareSegment, HasHoleOutside, HasHolesThatOverlap, HasTouchCycle, too_few_points, ring_cross, rings_share_edge, hole_outside, holes_overlap, disconnected, elements_share_edge, elements_overlap}
+use Rattle.point_set.specs.Shape.{IsAreaShaped, IsWellShaped, positions_of_area}
+use Rattle.point_set.specs.Validity.{IsAtPlace, SomeEarlier, SomeRing, AreasShareSegment, AreasOverlap, HasTooFewPoints, CrossesItself, RingsShareSegment, HasHoleOutside, HasHolesThatOverlap, HasTouchCycle, too_few_points, ring_cross, rings_share_edge, hole_outside, holes_overlap, disconnected, elements_share_edge, elements_overlap}
 use Rattle.figure_laws.proofs.Lists.Places.{all_at, some_same}
-use Rattle.ring_sides.proofs.Laws.{few_holes}
 use Rattle.geom_valid.specs.Faults.{AreFirstAreas, IsSoundAt, IsSoundUpTo}
 use Rattle.geom_valid.specs.Grounds.{IsSoundArea}
 use Rattle.geom_valid.proofs.FirstFaults.{none_here, sound_at_first, sound_at_last, sound_on}
@@ -35,10 +32,11 @@ earlier_at f place before area other IsSo earlier at other_at same so =
 
 -- ---- sound areas
 -- an area whose rings are so that none of the first five clauses fails
-pub sound_from : (area : Area) → length area.holes ≤ 1048576 → IsAreaShaped area → ¬ SomeRing HasTooFewPoints area → ¬ SomeRing CrossesItself area → ¬ RingsShareSegment area
+pub sound_from : (area : Area) → positions_of_area area ≤ 1048576 → IsAreaShaped area → ¬ SomeRing HasTooFewPoints area
+    → ¬ SomeRing CrossesItself area → ¬ RingsShareSegment area
     → ¬ HasHoleOutside area → ¬ HasHolesThatOverlap area → IsSoundArea area
-sound_from area holes shaped few crossed unshared within unlapped = record {
-  few = holes;
+sound_from area positions shaped few crossed unshared within unlapped = record {
+  few = positions;
   clean = record { shaped = shaped; simple = no_ring CrossesItself area crossed; unshared = unshared; within = within; unlapped = unlapped };
   enough = no_ring HasTooFewPoints area few;
 }

@@ -1,17 +1,14 @@
 -- The order of faults: what is known after each test, and that a figure has one first fault.
-use Rattle.std.proofs.Common.{◌≡◌, ◌⊎◌, inl, inr, ℕ, zero, suc, ◌+◌, ◌<◌, List, length, ap, refl, sym, ◌∙◌, subst, arith, add-one}
-use Rattle.std.specs.Prelude.{Result, Ok, Err}
+use Rattle.std.proofs.Common.{◌≡◌, ◌⊎◌, inl, inr, ℕ, zero, suc, ◌+◌, ◌<◌, length, ap, refl, sym, ◌∙◌, subst, arith}
 use Rattle.std.proofs.lemmas.Bool.{cases_eq, cases_order}
 use Rattle.std.proofs.lemmas.Option.{slice_get_within}
 use Rattle.point_set.specs.declared.figure.Area.{Area}
 use Rattle.point_set.specs.declared.figure.Figure.{Figure}
-use Rattle.point_set.specs.Validity.{Clause, IsAtPlace, SomeArea, SomeEarlier, Fails, rank_of, ComesBefore, IsFirstFault, IsValid, too_few_points, ring_cross, rings_share_edge, hole_outside, holes_overlap, disconnected, elements_share_edge, elements_overlap}
+use Rattle.point_set.specs.Validity.{Clause, IsAtPlace, SomeArea, Fails, rank_of, ComesBefore, IsFirstFault, IsValid, too_few_points, ring_cross, rings_share_edge, hole_outside, holes_overlap, disconnected, elements_share_edge, elements_overlap}
 use Rattle.figure_laws.proofs.Lists.Places.{some_same}
 use Rattle.geom_valid.specs.declared.kinds.InvalidKind.{InvalidKind}
 use Rattle.geom_valid.specs.declared.kinds.InvalidKind.TheVariants as kind
-use Rattle.geom_valid.specs.declared.kinds.AdmitFault.{AdmitFault}
-use Rattle.geom_valid.specs.declared.kinds.AdmitFault.TheVariants as fault
-use Rattle.geom_valid.specs.Faults.{clause_of, AreSoundBefore, IsSoundAt, IsSoundUpTo, IsFirstAt, IsFirstFaultOf, IsRefusedFor, IsAdmittedAs, IsFaultAt}
+use Rattle.geom_valid.specs.Faults.{clause_of, AreSoundBefore, IsSoundAt, IsSoundUpTo, IsFirstAt, IsFirstFaultOf}
 
 -- ---- clauses and kinds by their order
 abbrev clause_at : ℕ → Clause

@@ -1,5 +1,5 @@
 -- The rows of a ring read as an area, and those of an area.
-use Rattle.std.proofs.Common.{◌≡◌, ℕ, suc, ◌+◌, List, [], ◌∷◌, ◌++◌, length, get_or, ap, refl, sym, ◌∙◌, subst, arith}
+use Rattle.std.proofs.Common.{◌≡◌, ℕ, suc, ◌+◌, ◌≤◌, List, [], ◌∷◌, ◌++◌, length, get_or, ap, refl, sym, ◌∙◌, subst, arith}
 use Rattle.std.specs.Prelude.{map, Some}
 use Rattle.std.specs.List.{All}
 use Rattle.std.proofs.lemmas.List.{get_or-map, length-map}
@@ -14,14 +14,15 @@ use Rattle.point_set.specs.declared.figure.Area.{Area}
 use Rattle.point_set.specs.Edges.{OwnedEdge, IsAreaHand, area_of, edges_of_area_rings, owned_by}
 use Rattle.point_set.specs.Location.{edges_of_rings, rings_of}
 use Rattle.point_set.specs.Rings.{edges_of}
-use Rattle.point_set.specs.Shape.{IsAreaShaped, IsRingShaped}
+use Rattle.point_set.specs.Shape.{IsAreaShaped, IsRingShaped, positions_of_area}
 use Rattle.point_set.specs.Validity.{IsAtPlace}
 use Rattle.figure_laws.proofs.Edges.Limits.{IsProper, proper_way}
 use Rattle.side_laws.proofs.Areas.Hands.{AreRingsClean, shell_hand}
-use Rattle.ring_sides.specs.Rows.{AddsArea, AddsRing, owned_edge, owned_edges, row_of}
+use Rattle.ring_sides.specs.Rows.{AddsArea, AddsRing, owned_edges, row_of}
 use Rattle.ring_sides.proofs.Laws.{row_owners}
 use Rattle.valid_laws.specs.Entering.{disc_of, edges_in, IsClean, IsSimpleRing}
 use Rattle.valid_laws.proofs.Clauses.OverAllPoints.{disc_clean, disc_edges}
+use Rattle.valid_laws.proofs.Edges.Few.{few_area_edges, few_ring_edges}
 use Rattle.area_entry.specs.Grounds.{AreRowsOf}
 use Rattle.area_entry.specs.RowSections.{AreOfOneArea, IsRowSound}
 
@@ -91,6 +92,17 @@ ring_rows_sound ring shaped owner rows so =
     rows_sound rows (edges_of ring) (ap segs_in so.joined ∙ ring_segs owner so.side (edges_of ring))
     (proper_way ring shaped.within)
 
+-- a ring of few positions has few edges
+pub ring_rows_few : (ring : List Pt) → IsRingShaped ring → length ring ≤ 1048576 → (owner : Owner) (rows : List Edge) → AddsRing ring owner [] rows
+    → length rows ≤ 1048576
+ring_rows_few ring shaped few owner rows so =
+    omega (
+      arith,
+      few_ring_edges ring shaped few,
+      ap length so.joined,
+      length-map (edges_of ring) (row_of owner so.side),
+    )
+
 -- ---- an area
 -- the segments of its edges
 owned_segs : (owner : Owner) (edges : List Seg) (rest : List OwnedEdge) → map (λ edge. edge.seg) (owned_by owner edges ++ rest)
@@ -126,3 +138,13 @@ pub area_rows_sound : (area : Area) → IsAreaShaped area → (place : ℕ) (row
 area_rows_sound area shaped place rows so =
     rows_sound rows (edges_in area) (area_rows_are area place rows so).segs
     (proper_rings (rings_of area) (All-cons IsRingShaped area.shell area.holes shaped.shell shaped.holes))
+
+pub area_rows_few : (area : Area) → IsAreaShaped area → positions_of_area area ≤ 1048576 → (place : ℕ) (rows : List Edge)
+    → AddsArea area place [] rows → length rows ≤ 1048576
+area_rows_few area shaped few place rows so =
+    omega (
+      arith,
+      few_area_edges area shaped few,
+      ap length (area_rows_are area place rows so).segs,
+      length-map rows (λ (row : Edge). row.seg),
+    )

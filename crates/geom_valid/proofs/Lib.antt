@@ -1,10 +1,12 @@
 pub mod RingLists
 pub mod ByEntering
 pub mod EarlierAreas
+pub mod FewPositions
 pub mod GroundRows
 pub mod WiderBoxes
 pub mod NearPlaces
 pub mod RingBoxes
 pub mod AreaBoxes
 pub mod FirstFaults
+pub mod CommonSegments
 pub mod Laws

@@ -11,7 +11,7 @@ use Rattle.plane_exact.proofs.Laws.{least_of_ends, low_at_most_high}
 use Rattle.edge_index.specs.Segments.{ArePlacesIn, IsWindowOf}
 use Rattle.point_set.specs.Validity.{IsAtPlace}
 use Rattle.figure_laws.proofs.Lists.Places.{some_same}
-use Rattle.geom_valid.specs.Boxes.{AreRound, HoldsNear, MeetAt, diagonal_of}
+use Rattle.geom_valid.specs.Boxes.{AreRound, HoldsNear, diagonal_of}
 use Rattle.geom_valid.proofs.RingLists.{NoneBefore}
 
 -- ---- one item more at the end of a list

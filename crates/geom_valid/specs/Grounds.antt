@@ -1,11 +1,11 @@
 -- Areas and rings with the rows of their edges.
-use Rattle.std.specs.Prelude.{◌≡◌, ℕ, ◌<◌, ◌≤◌, List, length}
+use Rattle.std.specs.Prelude.{◌≡◌, ℕ, ◌<◌, ◌≤◌, List}
 use Rattle.std.specs.List.{All}
 use Rattle.plane_exact.specs.declared.point.Pt.{Pt}
 use Rattle.point_set.specs.declared.edge.Edge.{Edge}
 use Rattle.point_set.specs.declared.figure.Area.{Area}
 use Rattle.point_set.specs.Location.{rings_of}
-use Rattle.point_set.specs.Shape.{IsAreaShaped}
+use Rattle.point_set.specs.Shape.{IsAreaShaped, positions_of_area}
 use Rattle.point_set.specs.Validity.{IsAtPlace, HasTooFewPoints, RingsShareSegment}
 use Rattle.valid_laws.specs.Entering.{disc_of, IsClean, IsSimpleRing, AreBothInside}
 use Rattle.area_entry.specs.Grounds.{AreRowsOf}
@@ -18,17 +18,17 @@ pub record IsDisc (ring : List Pt) (rows : List Edge) : Type 0 where
   pub sound : All IsRowSound rows
   pub one_area : AreOfOneArea rows
 
--- The rings of an area, which has no more holes than a figure can have. No two rings have a common segment.
+-- The rings of an area, which has no more positions than a figure can have. No two rings have a common segment.
 pub record AreRingsOf (area : Area) (shell : List Pt) (holes : List (List Pt)) : Type 0 where
-  pub few : length area.holes ≤ 1048576
+  pub few : positions_of_area area ≤ 1048576
   pub shaped : IsAreaShaped area
   pub shell_is : shell ≡ area.shell
   pub holes_are : holes ≡ area.holes
   pub unshared : ¬ RingsShareSegment area
 
--- A clean area of which each ring has three distinct positions, with no more holes than a figure can have.
+-- A clean area of which each ring has three distinct positions, with no more positions than a figure can have.
 pub record IsSoundArea (area : Area) : Type 0 where
-  pub few : length area.holes ≤ 1048576
+  pub few : positions_of_area area ≤ 1048576
   pub clean : IsClean area
   pub enough : All (λ ring. ¬ HasTooFewPoints ring) (rings_of area)
 

@@ -1,3 +1,4 @@
 pub mod Grounds
 pub mod Boxes
 pub mod Faults
+pub mod Sharing

@@ -1,5 +1,5 @@
-ghost use Rattle.std.specs.Prelude.{◌↔◌, IfOk, IsTrue};
-ghost use Rattle.point_set.specs.Shape.{IsAreaShaped};
+ghost use Rattle.std.specs.Prelude.{◌↔◌, ◌≤◌, IfOk, IsTrue};
+ghost use Rattle.point_set.specs.Shape.{IsAreaShaped, positions_of_area};
 ghost use Rattle.point_set.specs.Validity.{CrossesItself, HasTooFewPoints, SomeRing};
 
 use plane_exact::NoMemory;
@@ -16,6 +16,7 @@ pub(crate) fn has_ring_with_too_few(area: &Area) -> bool
 
 /// Whether a ring of an area crosses or touches itself.
 pub(crate) fn has_ring_that_crosses(alloc: Global, area: &Area) -> Result<bool, NoMemory>
+    requires few { positions_of_area area.now ≤ 1048576 }
     requires shaped { IsAreaShaped area.now }
     ensures crosses { IfOk result (λ b. IsTrue b ↔ SomeRing CrossesItself area.now) }
 {

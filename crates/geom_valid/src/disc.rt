@@ -26,7 +26,7 @@ impl<'a> Model for Disc<'a> {
 }
 
 impl<'a> Disc<'a> {
-    ghost use Rattle.std.specs.Prelude.{◌≡◌, ◌↔◌, IfOk, IsTrue};
+    ghost use Rattle.std.specs.Prelude.{◌≡◌, ◌↔◌, ◌≤◌, length, IfOk, IsTrue};
     ghost use Rattle.im_matrix.specs.declared.Loc.TheVariants as loc;
     ghost use Rattle.plane_exact.specs.NodePoints.{point_at};
     ghost use Rattle.plane_exact.specs.Places.{point_of};
@@ -38,6 +38,7 @@ impl<'a> Disc<'a> {
 
     /// The ring with its edges.
     pub(crate) fn of(alloc: Global, ring: &'a Path) -> Result<Disc<'a>, NoMemory>
+        requires few { length ring.now ≤ 1048576 }
         requires shaped { IsRingShaped ring.now }
         requires enough { ¬ HasTooFewPoints ring.now }
         requires simple { ¬ CrossesItself ring.now }

@@ -1,14 +1,13 @@
 ghost use Rattle.std.specs.Prelude.{◌≡◌, ◌<◌, ◌↔◌, length, IfOk, IsTrue};
 ghost use Rattle.geom_valid.specs.Boxes.{AreRound, IsRoundArea};
 ghost use Rattle.geom_valid.specs.Faults.{AreFirstAreas};
-ghost use Rattle.point_set.specs.Shape.{IsAreaShaped, IsWellShaped};
+ghost use Rattle.point_set.specs.Shape.{IsWellShaped};
 ghost use Rattle.point_set.specs.Validity.{AreasOverlap, AreasShareSegment, IsAtPlace, SomeEarlier};
 
 use crate::near_boxes::NearBoxes;
 use crate::sound_area::SoundArea;
 use plane_exact::{ItemList, NoMemory};
-use point_set::{Area, Figure};
-use ring_faults::areas_share;
+use point_set::Figure;
 use std::alloc::Global;
 
 /// Whether the area at a place has a common segment with an earlier one of its group. Areas whose boxes are apart aren't compared.
@@ -17,33 +16,36 @@ pub(crate) fn shares_with_earlier(
     f: &Figure,
     place: usize,
     boxes: &NearBoxes,
+    sound: &SoundArea,
+    earlier: &ItemList<SoundArea>,
 ) -> Result<bool, NoMemory>
-    requires shaped { IsWellShaped f.now }
     requires place { place < length f.now.areas }
     requires boxes { AreRound IsRoundArea f.now.areas boxes.now }
+    requires area { IsAtPlace f.now.areas place sound.now }
+    requires earlier { AreFirstAreas f.now place earlier.now }
     ensures share { IfOk result (λ b. IsTrue b ↔ SomeEarlier f.now place AreasShareSegment) }
 {
-    let area = f.areas.at(place);
+    let group = f.areas.at(place).group;
     let near = boxes.near(alloc, place)?;
     for other in near.as_slice() {
         let before = *other as usize;
-        if before < place && share_in_group(alloc, area, f.areas.at(before))? {
+        if before < place && share_in_group(alloc, group, sound, earlier.at(before))? {
             return Ok(true);
         }
     }
     Ok(false)
 }
 
-/// Whether two areas are of one group and have a common segment.
-fn share_in_group(alloc: Global, area: &Area, other: &Area) -> Result<bool, NoMemory>
-    requires area { IsAreaShaped area.now }
-    requires other { IsAreaShaped other.now }
-    ensures share { IfOk result (λ b. IsTrue b ↔ ((area.now.group ≡ other.now.group) × AreasShareSegment area.now other.now)) }
+/// Whether an area of a group and another one of this group have a common segment.
+fn share_in_group(
+    alloc: Global,
+    group: u32,
+    sound: &SoundArea,
+    other: &SoundArea,
+) -> Result<bool, NoMemory>
+    ensures share { IfOk result (λ b. IsTrue b ↔ ((group ≡ other.now.group) × AreasShareSegment sound.now other.now)) }
 {
-    if area.group != other.group {
-        return Ok(false);
-    }
-    areas_share(alloc, area, other)
+    Ok(group == other.area().group && sound.shares(alloc, other)?)
 }
 
 /// Whether the area at a place has a common interior point with an earlier one of its group. Areas whose boxes are apart aren't

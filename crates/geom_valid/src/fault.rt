@@ -72,10 +72,10 @@ fn sound_at<'a>(
     if has_cycle(alloc, area)? {
         return Ok(Err(InvalidKind::Disconnected));
     }
-    if shares_with_earlier(alloc, f, place, boxes)? {
+    let sound = SoundArea::of(alloc, rings)?;
+    if shares_with_earlier(alloc, f, place, boxes, &sound, earlier)? {
         return Ok(Err(InvalidKind::ElementsShareEdge));
     }
-    let sound = SoundArea::of(alloc, rings)?;
     if overlaps_earlier(alloc, f, place, boxes, &sound, earlier)? {
         return Ok(Err(InvalidKind::ElementsOverlap));
     }

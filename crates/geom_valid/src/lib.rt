@@ -12,6 +12,7 @@ pub mod law;
 mod near_boxes;
 mod ring_set;
 mod rows;
+mod sharing;
 mod sound_area;
 #[cfg(test)]
 mod tests;

@@ -1,4 +1,4 @@
-ghost use Rattle.std.specs.Prelude.{◌≡◌, All, IfOk};
+ghost use Rattle.std.specs.Prelude.{◌≡◌, ◌≤◌, length, All, IfOk};
 ghost use Rattle.point_set.specs.Shape.{IsRingShaped};
 ghost use Rattle.point_set.specs.Validity.{CrossesItself, HasTooFewPoints};
 
@@ -33,13 +33,13 @@ impl<'a> RingSet<'a> {
     ghost use Rattle.std.specs.Prelude.{◌≡◌, ◌<◌, ◌≤◌, ◌↔◌, length, All, IfOk, IsTrue};
     ghost use Rattle.geom_valid.specs.Boxes.{AreRound, IsRoundRing};
     ghost use Rattle.point_set.specs.Location.{rings_of};
-    ghost use Rattle.point_set.specs.Shape.{IsAreaShaped};
+    ghost use Rattle.point_set.specs.Shape.{IsAreaShaped, positions_of_area};
     ghost use Rattle.point_set.specs.Validity.{CrossesItself, HasHoleOutside, HasHolesThatOverlap, HasTooFewPoints, RingsShareSegment};
     ghost use Rattle.geom_valid.specs.Grounds.{OverlapsEarlierHole};
 
     /// The rings of an area.
     pub(crate) fn of(alloc: Global, area: &'a Area) -> Result<RingSet<'a>, NoMemory>
-        requires few { length area.now.holes ≤ 1048576 }
+        requires few { positions_of_area area.now ≤ 1048576 }
         requires shaped { IsAreaShaped area.now }
         requires enough { All (λ ring. ¬ HasTooFewPoints ring) (rings_of area.now) }
         requires simple { All (λ ring. ¬ CrossesItself ring) (rings_of area.now) }
@@ -122,6 +122,7 @@ impl<'a> RingSet<'a> {
 
 /// Holes with their edges.
 fn discs_of<'a>(alloc: Global, holes: &'a Paths) -> Result<ItemList<Disc<'a>>, NoMemory>
+    requires few { All (λ ring. length ring ≤ 1048576) holes.now }
     requires shaped { All IsRingShaped holes.now }
     requires enough { All (λ ring. ¬ HasTooFewPoints ring) holes.now }
     requires simple { All (λ ring. ¬ CrossesItself ring) holes.now }

@@ -1,6 +1,7 @@
 use crate::disc::Disc;
 use crate::ring_set::RingSet;
 use crate::rows::area_rows;
+use crate::sharing::rows_share;
 use area_entry::{NearRows, enters};
 use area_locator::locate_plain;
 use im_matrix::Loc;
@@ -49,6 +50,13 @@ impl<'a> SoundArea<'a> {
         ensures area { result.now ≡ self.now }
     {
         self.rings.area()
+    }
+
+    /// Whether an edge of this area and an edge of another have a common segment.
+    pub(crate) fn shares(&self, alloc: Global, other: &SoundArea) -> Result<bool, NoMemory>
+        ensures shares { IfOk result (λ b. IsTrue b ↔ AreasShareSegment self.now other.now) }
+    {
+        rows_share(alloc, &self.rows, &other.rows)
     }
 
     /// Whether some point is interior to both areas.

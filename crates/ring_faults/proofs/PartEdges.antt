@@ -1,20 +1,24 @@
--- The edges of parts by their places: each edge of the row is one of its part, and each edge of a part stands in the row.
-use Rattle.std.proofs.Common.{◌≡◌, ℕ, zero, suc, ◌+◌, ◌<◌, List, [], ◌∷◌, length, get_or, map, ap, refl, sym}
+-- The edges of parts by their places: each edge of the row is one of its part, and each edge of a part stands in the row. The edges
+-- of a figure's rings are few.
+use Rattle.std.proofs.Common.{◌≡◌, ℕ, zero, suc, ◌+◌, ◌<◌, ◌≤◌, List, [], ◌∷◌, ◌++◌, length, length-append, get_or, map, ap, refl, sym}
 use Rattle.std.proofs.Common.{◌∙◌, subst, arith}
 use Rattle.std.specs.List.{All, Contains}
 use Rattle.std.specs.Option.{option_map}
 use Rattle.std.proofs.lemmas.Option.{slice_get-map, slice_get_read, slice_get_within, get_or_from_slice_get}
+use Rattle.std.proofs.lemmas.List.{length-map}
 use Rattle.std.proofs.lemmas.List.Elements.{All-nil, All-head, All-tail, All-append, All-map, All-weaker}
 use Rattle.plane_exact.specs.declared.point.Pt.{Pt}
 use Rattle.plane_exact.specs.declared.point.Seg.{Seg}
-use Rattle.point_set.specs.Location.{edges_of_rings}
+use Rattle.point_set.specs.declared.figure.Area.{Area}
+use Rattle.point_set.specs.Location.{edges_of_rings, rings_of}
 use Rattle.point_set.specs.Rings.{edges_of}
-use Rattle.point_set.specs.Shape.{IsRingShaped}
+use Rattle.point_set.specs.Shape.{IsAreaShaped, IsRingShaped, positions_of_area}
 use Rattle.point_set.specs.Validity.{IsAtPlace}
 use Rattle.figure_laws.proofs.Edges.Limits.{IsProper, proper_way}
 use Rattle.figure_laws.proofs.Lists.Items.{each_both, each_map, some_left, some_right, some_map}
 use Rattle.figure_laws.proofs.Lists.Least.{SomeItem}
 use Rattle.figure_laws.proofs.Lists.Places.{some_same}
+use Rattle.valid_laws.proofs.Edges.Few.{few_area_edges, few_ring_edges}
 use Rattle.ring_faults.specs.declared.part.PartEdge.{PartEdge}
 use Rattle.ring_faults.specs.Parts.{IsEdgeSound, AreEdgesSound, part_edge, of_part, edges_of_parts, segs_of}
 
@@ -115,9 +119,24 @@ sound_rings first (ring ∷ rings) all =
     (sound_part first (edges_of ring) (sound_ring ring (All-head IsRingShaped ring rings all)))
     (sound_rings (first + 1) rings (All-tail IsRingShaped ring rings all))
 
--- of several rings, one after the other
-pub sound_joined : (rings : List (List Pt)) → All IsRingShaped rings → All IsEdgeSound (edges_of_rings rings)
-sound_joined [] all = All-nil IsEdgeSound
-sound_joined (ring ∷ rings) all =
-    All-append IsEdgeSound (edges_of ring) (edges_of_rings rings) (sound_ring ring (All-head IsRingShaped ring rings all))
-    (sound_joined rings (All-tail IsRingShaped ring rings all))
+-- ---- how many edges there are
+-- as many as those of the rings together
+count_parts : (first : ℕ) (rings : List (List Pt)) → length (edges_of_parts first (map edges_of rings)) ≡ length (edges_of_rings rings)
+count_parts first [] = refl
+count_parts first (ring ∷ rings) =
+    omega (
+      arith,
+      length-append (of_part first (edges_of ring)) (edges_of_parts (first + 1) (map edges_of rings)),
+      length-map (edges_of ring) (part_edge first),
+      length-append (edges_of ring) (edges_of_rings rings),
+      count_parts (first + 1) rings,
+    )
+
+-- so there are few where an area has few positions
+pub few_by_ring : (area : Area) → IsAreaShaped area → positions_of_area area ≤ 1048576
+    → length (edges_of_parts 0 (map edges_of (rings_of area))) ≤ 1048576
+few_by_ring area shaped few = omega (arith, few_area_edges area shaped few, count_parts 0 (rings_of area))
+
+-- and where a ring does
+pub few_of_ring : (ring : List Pt) → IsRingShaped ring → length ring ≤ 1048576 → length (of_part 0 (edges_of ring)) ≤ 1048576
+few_of_ring ring shaped few = omega (arith, few_ring_edges ring shaped few, length-map (edges_of ring) (part_edge 0))

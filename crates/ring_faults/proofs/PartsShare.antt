@@ -1,4 +1,4 @@
--- Parts have a common segment exactly where two of their edges clash so; and what that says of rings and of areas.
+-- Parts have a common segment exactly where two of their edges clash so; and what that says of rings.
 use Rattle.std.proofs.Common.{◌≡◌, ◌↔◌, ℕ, zero, suc, ◌<◌, Option, Some, None, List, [], ◌∷◌, map, ap, refl, sym, ◌∙◌, subst, subst₂, arith}
 use Rattle.std.specs.Option.{option_map}
 use Rattle.std.specs.Prelude.{slice_get}
@@ -6,9 +6,9 @@ use Rattle.std.proofs.lemmas.Option.{slice_get-map, none-some}
 use Rattle.plane_exact.specs.declared.point.Pt.{Pt}
 use Rattle.plane_exact.specs.declared.point.Seg.{Seg}
 use Rattle.point_set.specs.declared.figure.Area.{Area}
-use Rattle.point_set.specs.Location.{rings_of, edges_of_rings}
+use Rattle.point_set.specs.Location.{rings_of}
 use Rattle.point_set.specs.Rings.{edges_of}
-use Rattle.point_set.specs.Validity.{IsAtPlace, CrossesItself, ShareSegment, EdgesShareSegment, RingsShareSegment, AreasShareSegment}
+use Rattle.point_set.specs.Validity.{IsAtPlace, CrossesItself, ShareSegment, EdgesShareSegment, RingsShareSegment}
 use Rattle.figure_laws.proofs.Lists.Least.{SomeItem}
 use Rattle.figure_laws.proofs.Lists.Places.{some_same}
 use Rattle.ring_faults.specs.declared.part.PartEdge.{PartEdge}
@@ -137,33 +137,6 @@ rings_clash area =
     let clash = parts_share (map edges_of (rings_of area)) in
     let rings = rings_as_parts area in
     (λ h. rings.0 (clash.0 h), λ h. clash.1 (rings.1 h))
-
--- ---- two areas
--- of two parts the one is at place 0 and the other at place 1
-two_parts : (one other : List Seg) (i j : ℕ) (xs ys : List Seg) → i < j → IsAtPlace (one ∷ other ∷ []) i xs
-    → IsAtPlace (one ∷ other ∷ []) j ys
-    → EdgesShareSegment xs ys → EdgesShareSegment one other
-two_parts one other zero (suc zero) xs ys below xs_is ys_is h =
-    let Shares : List Seg → List Seg → Type 0 = λ xs ys. EdgesShareSegment xs ys in
-    subst₂ Shares (sym (some_same xs_is)) (sym (some_same ys_is)) h
-two_parts one other zero zero xs ys below xs_is ys_is h = absurd (omega arith)
-two_parts one other (suc zero) (suc zero) xs ys below xs_is ys_is h = absurd (omega arith)
-two_parts one other (suc zero) zero xs ys below xs_is ys_is h = absurd (omega arith)
-two_parts one other i (suc (suc j)) xs ys below xs_is ys_is h = cc
-two_parts one other (suc (suc i)) j xs ys below xs_is ys_is h = cc
-
--- edges of two areas clash exactly where the areas have a common segment
-pub areas_clash :
-    (one other : Area)
-    → SomeClash Sharing (edges_of_parts 0 (edges_of_rings (rings_of one) ∷ edges_of_rings (rings_of other) ∷ [])) ↔ AreasShareSegment one
-    other
-areas_clash one other =
-    let first = edges_of_rings (rings_of one) in
-    let second = edges_of_rings (rings_of other) in
-    let clash = parts_share (first ∷ second ∷ []) in (
-      λ h. let s = clash.0 h in two_parts first second s.i s.j s.one s.other s.earlier s.one_is s.other_is s.share,
-      λ h. clash.1 (record { i = 0; j = 1; earlier = omega arith; one = first; other = second; one_is = refl; other_is = refl; share = h }),
-    )
 
 -- ---- one ring
 -- two edges of a ring clash so exactly where the ring crosses itself

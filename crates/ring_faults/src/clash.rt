@@ -1,9 +1,9 @@
-ghost use Rattle.std.specs.Prelude.{◌≡◌, ◌↔◌, ◌<◌, length, All, IfOk, IsTrue, List};
+ghost use Rattle.std.specs.Prelude.{◌≡◌, ◌↔◌, ◌<◌, ◌≤◌, length, All, IfOk, IsTrue, List};
 ghost use Rattle.plane_exact.specs.NodePoints.{point_at};
 ghost use Rattle.plane_exact.specs.Places.{IsInLimit, point_of};
 ghost use Rattle.plane_exact.specs.declared.point.Seg.{Seg};
 ghost use Rattle.plane_laws.specs.Plane.{IsSamePoint};
-ghost use Rattle.point_set.specs.Validity.{IsJoint, ShareSegment};
+ghost use Rattle.point_set.specs.Validity.{IsJoint};
 ghost use Rattle.ring_faults.specs.Clashes.{ClashAt, ClashesWithSome, SomeClash};
 ghost use Rattle.ring_faults.specs.Joints.{HasUnjoinedPoint};
 ghost use Rattle.ring_faults.specs.Parts.{IsEdgeSound, AreEdgesSound};
@@ -11,6 +11,7 @@ ghost use Rattle.ring_faults.specs.Parts.{IsEdgeSound, AreEdgesSound};
 use crate::link::is_same_node;
 use crate::near::NearEdges;
 use crate::part::PartEdges;
+use crate::sharing::share_segment;
 use plane_exact::{NoMemory, Node, PlaceList, Pt, Seg};
 use seg_cross::{Meet, meet};
 use std::alloc::Global;
@@ -26,6 +27,7 @@ pub(crate) enum Clash {
 
 /// Whether some two of the edges clash so.
 pub(crate) fn some_clash(alloc: Global, edges: PartEdges, clash: Clash) -> Result<bool, NoMemory>
+    requires few { length edges ≤ 1048576 }
     requires sound { AreEdgesSound edges }
     ensures clash { IfOk result (λ b. IsTrue b ↔ SomeClash clash edges) }
 {
@@ -67,18 +69,6 @@ fn clash_at(edges: &PartEdges, clash: Clash, i: usize, j: usize) -> bool
     match clash {
         Clash::Crossing => i < j && are_unjoined(e.seg, i, f.seg, j, edges.len()),
         Clash::Sharing => e.part < f.part && share_segment(e.seg, f.seg),
-    }
-}
-
-/// Whether two edges have a common segment.
-fn share_segment(e: Seg, f: Seg) -> bool
-    requires e { IsEdgeSound e }
-    requires f { IsEdgeSound f }
-    ensures share { IsTrue result ↔ ShareSegment e f }
-{
-    match meet(e, f) {
-        Meet::Apart | Meet::At(_) => false,
-        Meet::Along(_, _) => true,
     }
 }
 

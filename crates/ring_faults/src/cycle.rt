@@ -1,5 +1,5 @@
-ghost use Rattle.std.specs.Prelude.{◌↔◌, IfOk, IsTrue};
-ghost use Rattle.point_set.specs.Shape.{IsAreaShaped};
+ghost use Rattle.std.specs.Prelude.{◌↔◌, ◌≤◌, IfOk, IsTrue};
+ghost use Rattle.point_set.specs.Shape.{IsAreaShaped, positions_of_area};
 ghost use Rattle.point_set.specs.Validity.{HasTouchCycle, RingsShareSegment};
 
 use crate::forest::have_cycle;
@@ -13,8 +13,9 @@ use std::alloc::Global;
 /// Whether the rings of an area touch in a cycle, so that its interior is cut. No two of them have a common segment.
 ///
 /// # Errors
-/// `NoMemory`, also where the area has more than 1,048,576 edges.
+/// `NoMemory`.
 pub fn has_cycle(alloc: Global, area: &Area) -> Result<bool, NoMemory>
+    requires few { positions_of_area area.now ≤ 1048576 }
     requires shaped { IsAreaShaped area.now }
     requires unshared { ¬ RingsShareSegment area.now }
     ensures cycle { IfOk result (λ b. IsTrue b ↔ HasTouchCycle area.now) }

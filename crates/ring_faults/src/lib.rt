@@ -11,7 +11,9 @@ mod part;
 #[cfg(test)]
 mod ring_tests;
 mod rings;
+mod sharing;
 mod touch;
 
 pub use cycle::has_cycle;
-pub use rings::{areas_share, crosses_itself, has_too_few, rings_share};
+pub use rings::{crosses_itself, has_too_few, rings_share};
+pub use sharing::share_segment;

@@ -1,10 +1,10 @@
-ghost use Rattle.std.specs.Prelude.{◌≡◌, IfOk, OnOk};
+ghost use Rattle.std.specs.Prelude.{◌≡◌, ◌≤◌, length, IfOk, OnOk};
 ghost use Rattle.ring_faults.specs.Parts.{segs_of};
 ghost use Rattle.ring_faults.specs.Clashes.{AreNearPlaces};
 
 use crate::part::PartEdges;
 use edge_index::EdgeIndex;
-use plane_exact::{MOST_POSITIONS, NoMemory, PlaceList, Seg, SegList, Window};
+use plane_exact::{NoMemory, PlaceList, Seg, SegList, Window};
 use std::alloc::Global;
 
 /// Edges with an index, which finds those near an edge.
@@ -19,13 +19,11 @@ impl NearEdges {
     /// Makes an index of edges.
     ///
     /// # Errors
-    /// `NoMemory`, also where there are more than 1,048,576 edges: no index has room for them.
+    /// `NoMemory`.
     pub(crate) fn new(alloc: Global, edges: PartEdges) -> Result<NearEdges, NoMemory>
+        requires few { length edges ≤ 1048576 }
         ensures edges { IfOk result (λ near. near.edges ≡ edges) }
     {
-        if edges.len() > MOST_POSITIONS {
-            return Err(NoMemory);
-        }
         let segs = segs_of(alloc, &edges)?;
         let index = EdgeIndex::build(alloc, segs)?;
         Ok(NearEdges { edges, index })

@@ -1,5 +1,5 @@
 ghost use Rattle.std.specs.Prelude.{◌≡◌, ◌∷◌, ◌++◌, IfOk, OnOk, map};
-ghost use Rattle.point_set.specs.Location.{rings_of, edges_of_rings};
+ghost use Rattle.point_set.specs.Location.{rings_of};
 ghost use Rattle.point_set.specs.Rings.{edges_after, edges_of, is_same_position};
 ghost use Rattle.ring_faults.specs.Parts.{of_part, edges_of_parts};
 
@@ -7,7 +7,7 @@ use plane_exact::{ItemList, NoMemory, Path, Pt, Seg};
 use point_set::Area;
 use std::alloc::Global;
 
-/// An edge with the number of its part: that of its ring where rings are compared, and of its area where areas are.
+/// An edge with the number of its part, the ring to which it belongs.
 #[derive(Clone, Copy, Debug)]
 pub(crate) struct PartEdge {
     pub(crate) seg: Seg,
@@ -27,17 +27,6 @@ pub(crate) fn edges_by_ring(alloc: Global, area: &Area) -> Result<PartEdges, NoM
         add_ring(&mut edges, hole, i + 1)?;
     }
     Ok(edges)
-}
-
-/// Adds the edges of an area's rings, all of one part.
-pub(crate) fn add_area(edges: &mut PartEdges, area: &Area, part: usize) -> Result<(), NoMemory>
-    ensures edges { OnOk result (edges.new ≡ edges.old ++ of_part part (edges_of_rings (rings_of area.now))) }
-{
-    add_ring(edges, &area.shell, part)?;
-    for hole in area.holes.as_slice() {
-        add_ring(edges, hole, part)?;
-    }
-    Ok(())
 }
 
 /// Adds the edges of a ring.

@@ -1,19 +1,15 @@
 //! Rings and areas whose faults were found by hand.
-ghost use Rattle.std.specs.Prelude.{IsTrue, ◌↔◌, All};
-ghost use Rattle.point_set.specs.Shape.{IsAreaShaped, IsClosed, IsRingShaped, IsWayInLimit};
+ghost use Rattle.std.specs.Prelude.{◌<◌, ◌≤◌, length};
+ghost use Rattle.point_set.specs.Shape.{IsAreaShaped, IsWellShaped, positions_of_area};
 
-use super::{areas_share, crosses_itself, has_cycle, has_too_few, rings_share};
-use plane_exact::{NoMemory, Path, Pt, in_limit};
-use point_set::{Area, Paths};
+use super::{crosses_itself, has_cycle, has_too_few, rings_share};
+use plane_exact::{NoMemory, Path, Pt};
+use point_set::{Area, Figure, Paths, well_shaped};
 use std::alloc::Global;
 use std::process::Abort;
 use std::test::Fail;
 
 const SQUARE: &[(i64, i64)] = &[(0, 0), (12, 0), (12, 12), (0, 12), (0, 0)];
-
-const NEXT_SQUARE: &[(i64, i64)] = &[(12, 3), (20, 3), (20, 20), (12, 20), (12, 3)];
-
-const CORNER_SQUARE: &[(i64, i64)] = &[(12, 12), (20, 12), (20, 20), (12, 20), (12, 12)];
 
 const BOW_TIE: &[(i64, i64)] = &[(0, 0), (4, 4), (4, 0), (0, 4), (0, 0)];
 
@@ -63,35 +59,14 @@ const EAST_OF_SIX: &[(i64, i64)] = &[(6, 6), (9, 5), (9, 7), (6, 6)];
 
 const NORTH_OF_SIX: &[(i64, i64)] = &[(6, 6), (7, 9), (5, 9), (6, 6)];
 
-fn is_in_limit(ring: &Path) -> bool
-    ensures limit { IsTrue result ↔ (IsWayInLimit ring.now) }
+/// The first area of a figure.
+fn first_area(figure: &Figure) -> &Area
+    requires shaped { IsWellShaped figure.now }
+    requires some { 0 < length figure.now.areas }
+    ensures shaped { IsAreaShaped result.now }
+    ensures few { positions_of_area result.now ≤ 1048576 }
 {
-    ring.as_slice().iter().all(|p| in_limit(*p))
-}
-
-fn is_closed(ring: &Path) -> bool
-    ensures closed { IsTrue result ↔ (IsClosed ring.now) }
-{
-    let positions = ring.as_slice();
-    positions.first().copied() == positions.last().copied()
-}
-
-fn is_ring(ring: &Path) -> bool
-    ensures shaped { IsTrue result ↔ (IsRingShaped ring.now) }
-{
-    ring.len() >= 4 && is_in_limit(ring) && is_closed(ring)
-}
-
-fn are_rings(rings: &Paths) -> bool
-    ensures shaped { IsTrue result ↔ (All IsRingShaped rings.now) }
-{
-    rings.as_slice().iter().all(|ring| is_ring(ring))
-}
-
-fn is_area(area: &Area) -> bool
-    ensures shaped { IsTrue result ↔ (IsAreaShaped area.now) }
-{
-    is_ring(&area.shell) && are_rings(&area.holes)
+    figure.areas.at(0)
 }
 
 fn ring_of(alloc: Global, positions: &[(i64, i64)]) -> Result<Path, NoMemory> {
@@ -102,23 +77,31 @@ fn ring_of(alloc: Global, positions: &[(i64, i64)]) -> Result<Path, NoMemory> {
     Ok(ring)
 }
 
-fn area_of(alloc: Global, shell: &[(i64, i64)], holes: &[&[(i64, i64)]]) -> Result<Area, NoMemory> {
+/// The figure of one area.
+fn figure_of(
+    alloc: Global,
+    shell: &[(i64, i64)],
+    holes: &[&[(i64, i64)]],
+) -> Result<Figure, NoMemory> {
     let mut rings = Paths::new(alloc);
     for hole in holes {
         rings.push(ring_of(alloc, hole)?)?;
     }
-    Ok(Area {
+    let mut figure = Figure::empty(alloc);
+    figure.areas.push(Area {
         shell: ring_of(alloc, shell)?,
         holes: rings,
         group: 0,
-    })
+    })?;
+    Ok(figure)
 }
 
 /// Whether the ring crosses itself.
 fn crosses(rt: &impl Abort, alloc: Global, positions: &[(i64, i64)]) -> Result<bool, Fail> {
-    let ring = ring_of(alloc, positions)?;
-    assert!(rt; is_ring(&ring));
-    let crosses = crosses_itself(alloc, &ring)?;
+    let figure = figure_of(alloc, positions, &[])?;
+    assert!(rt; well_shaped(&figure));
+    assert!(rt; figure.areas.len() > 0);
+    let crosses = crosses_itself(alloc, &first_area(&figure).shell)?;
     Ok(crosses)
 }
 
@@ -129,34 +112,22 @@ fn shares(
     shell: &[(i64, i64)],
     holes: &[&[(i64, i64)]],
 ) -> Result<bool, Fail> {
-    let area = area_of(alloc, shell, holes)?;
-    assert!(rt; is_area(&area));
-    let shares = rings_share(alloc, &area)?;
-    Ok(shares)
-}
-
-/// Whether the areas with these shells have a common segment.
-fn shells_share(
-    rt: &impl Abort,
-    alloc: Global,
-    one: &[(i64, i64)],
-    other: &[(i64, i64)],
-) -> Result<bool, Fail> {
-    let one = area_of(alloc, one, &[])?;
-    let other = area_of(alloc, other, &[])?;
-    assert!(rt; is_area(&one));
-    assert!(rt; is_area(&other));
-    let shares = areas_share(alloc, &one, &other)?;
+    let figure = figure_of(alloc, shell, holes)?;
+    assert!(rt; well_shaped(&figure));
+    assert!(rt; figure.areas.len() > 0);
+    let shares = rings_share(alloc, first_area(&figure))?;
     Ok(shares)
 }
 
 /// Whether holes of the square touch in a cycle, with each other or with the square.
 fn cycle_in(rt: &impl Abort, alloc: Global, holes: &[&[(i64, i64)]]) -> Result<bool, Fail> {
-    let area = area_of(alloc, SQUARE, holes)?;
-    assert!(rt; is_area(&area));
-    let shares = rings_share(alloc, &area)?;
+    let figure = figure_of(alloc, SQUARE, holes)?;
+    assert!(rt; well_shaped(&figure));
+    assert!(rt; figure.areas.len() > 0);
+    let area = first_area(&figure);
+    let shares = rings_share(alloc, area)?;
     assert!(rt; !shares);
-    let cycle = has_cycle(alloc, &area)?;
+    let cycle = has_cycle(alloc, area)?;
     Ok(cycle)
 }
 
@@ -196,15 +167,6 @@ fn rings_with_a_common_segment(rt: HostRuntime) -> Result<(), Fail> {
     assert!(rt; shares(&rt, rt.alloc(), SQUARE, &[SQUARE])?);
     assert!(rt; !shares(&rt, rt.alloc(), SQUARE, &[LEFT_WEDGE, LOWER_WEDGE])?);
     assert!(rt; !shares(&rt, rt.alloc(), SPIKE, &[LEFT_OF_THREE])?);
-    Ok(())
-}
-
-#[test]
-fn areas_with_a_common_segment(rt: HostRuntime) -> Result<(), Fail> {
-    assert!(rt; shells_share(&rt, rt.alloc(), SQUARE, NEXT_SQUARE)?);
-    assert!(rt; shells_share(&rt, rt.alloc(), NEXT_SQUARE, SQUARE)?);
-    assert!(rt; !shells_share(&rt, rt.alloc(), SQUARE, CORNER_SQUARE)?);
-    assert!(rt; !shells_share(&rt, rt.alloc(), BOW_TIE, CHEVRON)?);
     Ok(())
 }
 

@@ -1,9 +1,9 @@
-ghost use Rattle.std.specs.Prelude.{◌≡◌, ◌≢◌, ◌↔◌, ◌⊎◌, All, Contains, IfNone, IfOk, IfSome, IsTrue};
-ghost use Rattle.point_set.specs.Shape.{IsAreaShaped, IsRingShaped};
-ghost use Rattle.point_set.specs.Validity.{AreasShareSegment, CrossesItself, HasTooFewPoints, RingsShareSegment};
+ghost use Rattle.std.specs.Prelude.{◌≡◌, ◌≢◌, ◌↔◌, ◌⊎◌, ◌≤◌, length, All, Contains, IfNone, IfOk, IfSome, IsTrue};
+ghost use Rattle.point_set.specs.Shape.{IsAreaShaped, IsRingShaped, positions_of_area};
+ghost use Rattle.point_set.specs.Validity.{CrossesItself, HasTooFewPoints, RingsShareSegment};
 
 use crate::clash::{Clash, some_clash};
-use crate::part::{PartEdges, add_area, add_ring, edges_by_ring};
+use crate::part::{PartEdges, add_ring, edges_by_ring};
 use plane_exact::{NoMemory, Path, Pt};
 use point_set::Area;
 use std::alloc::Global;
@@ -53,8 +53,9 @@ fn is_equal(p: &Pt, q: Pt) -> bool
 /// Whether a ring crosses or touches itself.
 ///
 /// # Errors
-/// `NoMemory`, also where the ring has more than 1,048,576 edges.
+/// `NoMemory`.
 pub fn crosses_itself(alloc: Global, ring: &Path) -> Result<bool, NoMemory>
+    requires few { length ring.now ≤ 1048576 }
     requires shaped { IsRingShaped ring.now }
     ensures crosses { IfOk result (λ b. IsTrue b ↔ CrossesItself ring.now) }
 {
@@ -66,25 +67,11 @@ pub fn crosses_itself(alloc: Global, ring: &Path) -> Result<bool, NoMemory>
 /// Whether two rings of an area have a common segment.
 ///
 /// # Errors
-/// `NoMemory`, also where the area has more than 1,048,576 edges.
+/// `NoMemory`.
 pub fn rings_share(alloc: Global, area: &Area) -> Result<bool, NoMemory>
+    requires few { positions_of_area area.now ≤ 1048576 }
     requires shaped { IsAreaShaped area.now }
     ensures share { IfOk result (λ b. IsTrue b ↔ RingsShareSegment area.now) }
 {
     some_clash(alloc, edges_by_ring(alloc, area)?, Clash::Sharing)
-}
-
-/// Whether an edge of one area and an edge of another have a common segment.
-///
-/// # Errors
-/// `NoMemory`, also where the areas have more than 1,048,576 edges together.
-pub fn areas_share(alloc: Global, one: &Area, other: &Area) -> Result<bool, NoMemory>
-    requires one { IsAreaShaped one.now }
-    requires other { IsAreaShaped other.now }
-    ensures share { IfOk result (λ b. IsTrue b ↔ AreasShareSegment one.now other.now) }
-{
-    let mut edges = PartEdges::new(alloc);
-    add_area(&mut edges, one, 0)?;
-    add_area(&mut edges, other, 1)?;
-    some_clash(alloc, edges, Clash::Sharing)
 }

@@ -1,4 +1,4 @@
-ghost use Rattle.std.specs.Prelude.{◌≡◌, ◌∷◌, ◌++◌, ◌<◌, [], List, length, All, Contains, IfOk, OnOk};
+ghost use Rattle.std.specs.Prelude.{◌≡◌, ◌∷◌, ◌++◌, ◌<◌, ◌≤◌, [], List, length, All, Contains, IfOk, OnOk};
 ghost use Rattle.point_set.specs.Validity.{ShareSegment};
 ghost use Rattle.ring_faults.specs.declared.part.PartEdge.{PartEdge};
 ghost use Rattle.ring_faults.specs.declared.clash.Clash.TheVariants.{Sharing};
@@ -15,6 +15,7 @@ use std::alloc::Global;
 
 /// The links of the points at which edges of two parts touch. No two such edges have a common segment.
 pub(crate) fn links_of(alloc: Global, edges: PartEdges) -> Result<Vec<Link>, NoMemory>
+    requires few { length edges ≤ 1048576 }
     requires sound { AreEdgesSound edges }
     requires unshared { ¬ SomeClash Sharing edges }
     ensures links { IfOk result (λ links. AreLinksOfParts edges (λ e. Contains edges e) links.items) }

@@ -1,4 +1,4 @@
-use Rattle.std.proofs.Common.{◌≡◌, length, ap, arith}
+use Rattle.std.proofs.Common.{length, ap, arith}
 use Rattle.figure_laws.proofs.Lists.Places.{read_at}
 use Rattle.geom_valid.proofs.WiderBoxes.{rings_first, rings_last, rings_next}
 use Rattle.geom_valid.proofs.boxes.area_box.Goals as goal

@@ -1,4 +1,4 @@
-use Rattle.std.proofs.Common.{◌≡◌, refl, arith}
+use Rattle.std.proofs.Common.{refl, arith}
 use Rattle.figure_laws.proofs.Lists.Places.{read_at}
 use Rattle.geom_valid.specs.Boxes.{IsRoundRing}
 use Rattle.geom_valid.proofs.NearPlaces.{round_all, round_none, round_on}

@@ -1,4 +1,4 @@
-use Rattle.std.proofs.Common.{◌≡◌, List, pos, get_or, length, refl, ap, subst, sym, arith}
+use Rattle.std.proofs.Common.{List, pos, get_or, length, ap, subst, arith}
 use Rattle.std.proofs.lemmas.Option.{slice_get-get_or}
 use Rattle.plane_exact.specs.declared.point.Pt.{Pt}
 use Rattle.point_set.specs.Validity.{IsAtPlace}

@@ -1,4 +1,4 @@
-use Rattle.std.proofs.Common.{◌≡◌, List, refl, sym, ◌∙◌, subst}
+use Rattle.std.proofs.Common.{List, refl, sym, ◌∙◌, subst}
 use Rattle.std.proofs.lemmas.Bool.{false≢true}
 use Rattle.plane_exact.specs.declared.point.Pt.{Pt}
 use Rattle.point_set.specs.Validity.{CrossesItself, IsAtPlace}

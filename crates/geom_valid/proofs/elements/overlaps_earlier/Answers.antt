@@ -1,9 +1,9 @@
-use Rattle.std.proofs.Common.{◌≡◌, ℕ, ◌+◌, ◌<◌, List, length, get_or, refl, sym, ◌∙◌, ap, subst, arith}
+use Rattle.std.proofs.Common.{◌≡◌, ℕ, List, get_or, refl, sym, ◌∙◌, ap, subst, arith}
 use Rattle.std.specs.List.{Contains}
 use Rattle.std.proofs.lemmas.Bool.{false≢true}
 use Rattle.std.proofs.lemmas.Option.{slice_get-get_or}
 use Rattle.point_set.specs.declared.figure.Area.{Area}
-use Rattle.point_set.specs.Validity.{AreasOverlap, AreasShareSegment, IsAtPlace}
+use Rattle.point_set.specs.Validity.{AreasOverlap, AreasShareSegment}
 use Rattle.figure_laws.proofs.Lists.Places.{read_at, some_same}
 use Rattle.geom_valid.proofs.AreaBoxes.{overlap_boxes_meet}
 use Rattle.geom_valid.proofs.EarlierAreas.{earlier_at, no_earlier}

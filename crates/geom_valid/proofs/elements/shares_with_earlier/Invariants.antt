@@ -7,4 +7,4 @@ use Rattle.geom_valid.proofs.elements.shares_with_earlier.Given as goal
 
 abbrev pub invariant-loop-other : goal.invariant-loop-other
 invariant-loop-other l =
-    NoneBefore (IsSoEarlier (λ other. (l.area.group ≡ other.group) × AreasShareSegment l.area other) l.f.areas l.place) l.other-items l.other-index
+    NoneBefore (IsSoEarlier (λ other. (l.group ≡ other.group) × AreasShareSegment l.sound other) l.f.areas l.place) l.other-items l.other-index

@@ -1,4 +1,4 @@
-use Rattle.std.proofs.Common.{◌≡◌, ℕ, ◌+◌, ◌<◌, List, length, ap, subst, subst₂, sym, arith}
+use Rattle.std.proofs.Common.{List, length, ap, subst, subst₂, sym, arith}
 use Rattle.std.specs.Prelude.{IfOk, OnOk, Result}
 use Rattle.plane_exact.specs.declared.window.Window.{Window}
 use Rattle.point_set.specs.declared.figure.Area.{Area}

@@ -1,11 +1,11 @@
-use Rattle.std.proofs.Common.{◌≡◌, ℕ, refl, sym, ◌∙◌, subst}
+use Rattle.std.proofs.Common.{refl, sym, ◌∙◌, subst}
 use Rattle.std.proofs.lemmas.Bool.{false≢true}
 use Rattle.point_set.specs.declared.figure.Area.{Area}
-use Rattle.point_set.specs.Validity.{AreasOverlap, AreasShareSegment, CrossesItself, HasHoleOutside, HasHolesThatOverlap, HasTooFewPoints, HasTouchCycle, IsAtPlace, RingsShareSegment, SomeEarlier, SomeRing}
+use Rattle.point_set.specs.Validity.{AreasShareSegment, CrossesItself, HasHoleOutside, HasHolesThatOverlap, HasTooFewPoints, HasTouchCycle, IsAtPlace, RingsShareSegment, SomeEarlier, SomeRing}
 use Rattle.figure_laws.proofs.Lists.Places.{read_at}
-use Rattle.ring_sides.proofs.Laws.{few_holes}
 use Rattle.geom_valid.specs.Grounds.{IsSoundArea}
 use Rattle.geom_valid.proofs.EarlierAreas.{AreEdgesSound, after_cross, after_cycle, after_elements_overlap, after_elements_share, after_few, after_outside, after_overlap, after_share, shaped_at, sound_from}
+use Rattle.geom_valid.proofs.FewPositions.{few_positions}
 use Rattle.geom_valid.proofs.FirstFaults.{some_here}
 use Rattle.geom_valid.proofs.RingLists.{no_ring}
 use Rattle.geom_valid.proofs.fault.sound_at.Goals as goal
@@ -33,12 +33,30 @@ returns-then-branch-2-clause-fault c =
       first = after_cross f c.args.place area at few crossed;
     }
 
+pub has_ring_that_crosses-requires-clause-few : goal.has_ring_that_crosses-requires-clause-few
+has_ring_that_crosses-requires-clause-few c =
+    let f = c.args.f.now in
+    let area = c.at-area.result.now in
+    few_positions f c.requires.shaped c.args.place area (read_at f.areas f.areas c.args.place area refl c.requires.place c.at-area.ensures.item)
+
+pub rings_share-requires-clause-few : goal.rings_share-requires-clause-few
+rings_share-requires-clause-few c =
+    let f = c.args.f.now in
+    let area = c.at-area.result.now in
+    few_positions f c.requires.shaped c.args.place area (read_at f.areas f.areas c.args.place area refl c.requires.place c.at-area.ensures.item)
+
+pub has_cycle-requires-clause-few : goal.has_cycle-requires-clause-few
+has_cycle-requires-clause-few c =
+    let f = c.args.f.now in
+    let area = c.at-area.result.now in
+    few_positions f c.requires.shaped c.args.place area (read_at f.areas f.areas c.args.place area refl c.requires.place c.at-area.ensures.item)
+
 pub of-requires-clause-few : goal.of-requires-clause-few
 of-requires-clause-few c =
     let f = c.args.f.now in
     let area = c.at-area.result.now in
     let at = read_at f.areas f.areas c.args.place area refl c.requires.place c.at-area.ensures.item in
-    few_holes f c.requires.shaped c.args.place area at
+    few_positions f c.requires.shaped c.args.place area at
 
 pub of-requires-clause-enough : goal.of-requires-clause-enough
 of-requires-clause-enough c = no_ring HasTooFewPoints c.at-area.result.now (λ h. false≢true (c.if-has_ring_with_too_few.ensures.few.1 h))
@@ -133,8 +151,15 @@ of-requires-2 c =
     let unlapped : ¬ HasHolesThatOverlap area
     = λ h. false≢true (sym c.if-branch-4.false ∙ c.in_ok-has_holes_that_overlap.ensures.overlap.1 (subst HasHolesThatOverlap (sym c.in_ok-rings.ensures.area) h)) in
     let sound : IsSoundArea area
-    = sound_from area (few_holes f c.requires.shaped c.args.place area at) (shaped_at f c.requires.shaped c.args.place area at) edges.few edges.crossed edges.unshared within unlapped in
+    = sound_from area (few_positions f c.requires.shaped c.args.place area at) (shaped_at f c.requires.shaped c.args.place area at) edges.few edges.crossed edges.unshared within unlapped in
     record { sound = subst IsSoundArea (sym c.in_ok-rings.ensures.area) sound }
+
+pub shares_with_earlier-requires-clause-area : goal.shares_with_earlier-requires-clause-area
+shares_with_earlier-requires-clause-area c =
+    let f = c.args.f.now in
+    let area = c.at-area.result.now in
+    let at = read_at f.areas f.areas c.args.place area refl c.requires.place c.at-area.ensures.item in
+    subst (λ (a : Area). IsAtPlace f.areas c.args.place a) (sym (c.in_ok-sound.ensures.area ∙ c.in_ok-rings.ensures.area)) at
 
 pub overlaps_earlier-requires-clause-area : goal.overlaps_earlier-requires-clause-area
 overlaps_earlier-requires-clause-area c =

@@ -1,5 +1,5 @@
-use Rattle.geom_valid.proofs.GroundRows.{ring_rows_are, ring_rows_one, ring_rows_sound}
-use Rattle.std.proofs.Common.{◌≡◌, [], List, subst}
+use Rattle.geom_valid.proofs.GroundRows.{ring_rows_are, ring_rows_few, ring_rows_one, ring_rows_sound}
+use Rattle.std.proofs.Common.{[], List, subst}
 use Rattle.point_set.specs.declared.edge.Edge.{Edge}
 use Rattle.point_set.specs.declared.edge.Owner.TheVariants.{Ring}
 use Rattle.ring_sides.specs.Rows.{AddsRing}
@@ -15,4 +15,5 @@ returns c =
       rows = ring_rows_are ring (record { shaped = c.requires.shaped; simple = c.requires.simple }) (Ring 0 0) rows so;
       one_area = ring_rows_one ring 0 0 rows so;
       sound = ring_rows_sound ring c.requires.shaped (Ring 0 0) rows so;
+      few = ring_rows_few ring c.requires.shaped c.requires.few (Ring 0 0) rows so;
     }

@@ -1,4 +1,4 @@
-use Rattle.std.proofs.Common.{◌↔◌, ◌+◌, IsTrue, List, length, add-one, ap, sym, ◌∙◌, subst}
+use Rattle.std.proofs.Common.{◌↔◌, ◌+◌, ◌≤◌, IsTrue, List, length, add-one, ap, sym, ◌∙◌, subst}
 use Rattle.std.proofs.lemmas.List.Elements.{All-cons}
 use Rattle.std.proofs.lemmas.Result.{IfOk-weaker}
 use Rattle.std.specs.List.{Contains}
@@ -14,10 +14,15 @@ use Rattle.ring_faults.specs.Parts.{AreEdgesSound}
 use Rattle.ring_faults.specs.Touches.{AreLinksOfParts}
 use Rattle.ring_faults.proofs.AreaLinks.{area_links, links_same, rings_below}
 use Rattle.ring_faults.proofs.Cycles.{cycle}
-use Rattle.ring_faults.proofs.PartEdges.{sound_rings}
+use Rattle.ring_faults.proofs.PartEdges.{few_by_ring, sound_rings}
 use Rattle.ring_faults.proofs.PartsShare.{rings_clash}
 use Rattle.ring_faults.proofs.cycle.has_cycle.Goals as goal
 use Rattle.ring_faults.proofs.Forests.{AreLinksOf}
+
+pub links_of-requires-clause-few : goal.links_of-requires-clause-few
+links_of-requires-clause-few c =
+    subst (λ (edges : List PartEdge). length edges ≤ 1048576) (sym c.in_ok-edges.ensures.edges)
+    (few_by_ring c.args.area.now c.requires.shaped c.requires.few)
 
 pub links_of-requires-clause-sound : goal.links_of-requires-clause-sound
 links_of-requires-clause-sound c =

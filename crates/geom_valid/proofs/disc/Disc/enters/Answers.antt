@@ -3,10 +3,9 @@ use Rattle.std.proofs.lemmas.Result.{IfOk-weaker}
 use Rattle.plane_exact.specs.declared.point.Pt.{Pt}
 use Rattle.plane_exact.specs.declared.point.Seg.{Seg}
 use Rattle.plane_exact.specs.NodePoints.{point_at}
-use Rattle.plane_exact.specs.Places.{point_of}
 use Rattle.point_set.specs.Location.{location, location_by}
 use Rattle.point_set.specs.Rings.{edges_of, is_inside, is_on_edges}
-use Rattle.point_set.specs.Validity.{EdgesShareSegment, IsAtPlace}
+use Rattle.point_set.specs.Validity.{EdgesShareSegment}
 use Rattle.valid_laws.specs.Entering.{disc_of, edges_in}
 use Rattle.valid_laws.proofs.Clauses.OverAllPoints.{disc_clean, disc_edges, disc_location}
 use Rattle.area_entry.specs.Entries.{BeginsIn}

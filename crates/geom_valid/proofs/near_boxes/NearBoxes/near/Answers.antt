@@ -1,4 +1,4 @@
-use Rattle.std.proofs.Common.{◌≡◌, ◌<◌, List, length, refl, sym, subst}
+use Rattle.std.proofs.Common.{◌<◌, List, length, refl, sym, subst}
 use Rattle.plane_exact.specs.declared.window.Window.{Window}
 use Rattle.figure_laws.proofs.Lists.Places.{read_at}
 use Rattle.geom_valid.specs.Boxes.{HoldsNear}

@@ -1,8 +1,8 @@
-use Rattle.std.proofs.Common.{◌≡◌, ℕ, ◌+◌, suc, List, refl, sym, ◌∙◌, subst, ap, arith}
+use Rattle.std.proofs.Common.{◌≡◌, ℕ, List, refl, sym, ◌∙◌, subst, ap}
 use Rattle.std.proofs.lemmas.Bool.{false≢true}
 use Rattle.plane_exact.specs.declared.point.Pt.{Pt}
 use Rattle.point_set.specs.declared.figure.Area.{Area}
-use Rattle.point_set.specs.Validity.{IsAtPlace, RingsShareSegment}
+use Rattle.point_set.specs.Validity.{IsAtPlace}
 use Rattle.figure_laws.proofs.Lists.Places.{read_at}
 use Rattle.valid_laws.specs.Entering.{LeavesShell}
 use Rattle.geom_valid.proofs.ByEntering.{hole_outside_at, no_hole_outside, shell_unshared}

@@ -1,15 +1,16 @@
-use Rattle.std.proofs.Common.{◌≡◌, ℕ, ◌<◌, length, List, refl, sym, ◌∙◌, ap, subst₂, arith}
+use Rattle.std.proofs.Common.{◌≡◌, length, List, refl, sym, ◌∙◌, ap, subst₂, arith}
 use Rattle.std.proofs.lemmas.Bool.{false≢true}
 use Rattle.plane_exact.specs.declared.point.Pt.{Pt}
 use Rattle.plane_exact.specs.declared.window.Window.{Window}
 use Rattle.point_set.specs.declared.figure.Area.{Area}
 use Rattle.geom_valid.specs.Boxes.{AreRound, IsRoundRing}
+use Rattle.geom_valid.proofs.FewPositions.{few_holes}
 use Rattle.geom_valid.proofs.ByEntering.{holes_overlap_at, no_holes_overlap, hole_within}
 use Rattle.geom_valid.proofs.ring_set.RingSet.has_holes_that_overlap.Goals as goal
 
 pub of-requires : goal.of-requires
 of-requires c =
-    let few = c.self.invariant.few in
+    let few = few_holes c.self.inside.area.now c.self.invariant.shaped c.self.invariant.few in
     let count = c.in_ok-ring_boxes.ensures.round.count in
     record { few = omega (arith, few, count, ap length c.as_slice.ensures.items) }
 

@@ -6,7 +6,7 @@ use Rattle.point_set.specs.declared.figure.Area.{Area}
 use Rattle.point_set.specs.Rings.{edges_of}
 use Rattle.point_set.specs.Validity.{EdgesShareSegment, IsAtPlace}
 use Rattle.figure_laws.proofs.Lists.Places.{read_at}
-use Rattle.valid_laws.specs.Entering.{edges_in, Enters, IsClean}
+use Rattle.valid_laws.specs.Entering.{edges_in, Enters}
 use Rattle.geom_valid.specs.Grounds.{IsSoundWith}
 use Rattle.geom_valid.proofs.ByEntering.{enters_by_hole, enters_by_shell, enters_none, ring_unshared}
 use Rattle.geom_valid.proofs.RingLists.{none_at_last, none_on}

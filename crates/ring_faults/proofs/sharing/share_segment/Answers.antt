@@ -1,7 +1,7 @@
 use Rattle.std.proofs.Common.{refl}
 use Rattle.std.proofs.lemmas.Bool.{false≢true}
 use Rattle.ring_faults.proofs.Overlaps.{along_shares, off_unshared}
-use Rattle.ring_faults.proofs.clash.share_segment.Goals as goal
+use Rattle.ring_faults.proofs.sharing.share_segment.Goals as goal
 
 pub returns-in-Apart : goal.returns-in-Apart
 returns-in-Apart c =

@@ -5,7 +5,7 @@ use Rattle.area_entry.proofs.Searches.{NoneBefore}
 use Rattle.valid_laws.specs.Entering.{IsClean}
 use Rattle.area_entry.specs.Entries.{IsUnshared, RunsInto}
 use Rattle.area_entry.specs.Grounds.{AreRowsOf}
-use Rattle.area_entry.proofs.entering.runs_into.Given as goal
+use Rattle.area_entry.proofs.entering.some_edge_runs_into.Given as goal
 
 abbrev pub invariant-loop-edge : goal.invariant-loop-edge
 invariant-loop-edge l =

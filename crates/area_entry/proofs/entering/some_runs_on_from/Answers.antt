@@ -1,0 +1,19 @@
+use Rattle.std.proofs.lemmas.Result.{IfOk-weaker}
+use Rattle.area_entry.proofs.Entries.{by_ring_places}
+use Rattle.area_entry.proofs.PlacedRows.{places_within}
+use Rattle.area_entry.proofs.entering.some_runs_on_from.Goals as goal
+
+pub some_near_runs_on_from-requires-clause-places : goal.some_near_runs_on_from-requires-clause-places
+some_near_runs_on_from-requires-clause-places c =
+    let near = c.in_ok-places.ensures.near in
+    places_within near.window c.args.ring.now c.in_ok-places.places near.places_in
+
+pub returns : goal.returns
+returns c = record {
+  runs =
+      IfOk-weaker c.some_near_runs_on_from.result _ _
+      (λ b decides area clean are_rows unshared at is.
+      by_ring_places c.args.ring.now area c.args.part c.args.row.now c.in_ok-places.places c.in_ok-places.ensures.near b
+      (decides area clean are_rows unshared at is))
+      c.some_near_runs_on_from.ensures.runs;
+}
