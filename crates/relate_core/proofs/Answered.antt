@@ -1,5 +1,5 @@
--- What a query answers that has taken in what the envelopes of two figures tell, and the samples at the few nodes near a box that holds their
--- common part: its value on the matrix of the two figures.
+-- What a query answers that has taken in what the envelopes of two figures tell, and the samples at the few nodes near a box that holds
+-- their common part: its value on the matrix of the two figures.
 use Rattle.std.proofs.Common.{◌≡◌, ◌≢◌, ◌≤◌, ◌⊎◌, inl, inr, ◌∙◌, refl, sym, subst, arith, Bool, List}
 use Rattle.std.specs.Prelude.{Option}
 use Rattle.std.proofs.lemmas.List.Elements.{All-contains}
@@ -19,8 +19,8 @@ use Rattle.point_set.specs.declared.rule.Rule.{Rule}
 use Rattle.point_set.specs.Dimension.{IsDimension, ShowsDimension}
 use Rattle.point_set.specs.Extents.{IsExtent}
 use Rattle.point_set.specs.Nodes.{IsNode, IsFewNode}
-use Rattle.point_set.specs.Relation.{IsInCell, IsMatrixOf}
-use Rattle.point_set.specs.Samples.{IsGreatest, IsSample, IsSampleMatrix}
+use Rattle.point_set.specs.Relation.{IsInCell}
+use Rattle.point_set.specs.Samples.{IsSample, IsSampleMatrix}
 use Rattle.point_set.specs.Visible.{AreValid}
 use Rattle.figure_laws.proofs.Sets.Dimensions.{segment_of_triangle, point_of_segment}
 use Rattle.cell_laws.specs.Decided.{AreDecidedBySamples}

@@ -3,19 +3,15 @@ use Rattle.std.proofs.Common.{◌≡◌, ◌⊎◌, ℕ, ◌∙◌, subst}
 use Rattle.std.specs.Prelude.{Option}
 use Rattle.im_matrix.specs.Cells.{dimension_at, start_dimension}
 use Rattle.im_matrix.specs.declared.Cell.{Cell}
-use Rattle.im_matrix.specs.declared.Dim.{Dim}
 use Rattle.im_matrix.specs.declared.Matrix.{Matrix}
-use Rattle.plane_laws.specs.Plane.{Point}
 use Rattle.plane_exact.specs.declared.window.Window.{Window}
 use Rattle.point_set.specs.declared.extent.Extent.{Extent}
 use Rattle.point_set.specs.declared.figure.Figure.{Figure}
 use Rattle.point_set.specs.declared.rule.Rule.{Rule}
 use Rattle.point_set.specs.Extents.{IsExtent}
-use Rattle.point_set.specs.Nodes.{IsNode, IsFewNode}
 use Rattle.point_set.specs.Samples.{IsSample}
 use Rattle.point_set.specs.Shape.{dimension_of}
 use Rattle.point_set.specs.Visible.{AreValid}
-use Rattle.cell_laws.specs.Decided.{AreDecidedBySamples}
 use Rattle.cell_laws.proofs.Cells.Matrix.{decided_by_samples}
 use Rattle.near_laws.specs.Near.{HoldsCommonPart, IsCommonPart, IsNearNode, LawNearDecide, beyond_cell, frame}
 use Rattle.topo_pred.specs.Values.{value_of, value_at, matrix_of}
@@ -36,8 +32,8 @@ use Rattle.near_laws.proofs.Envelopes.Frames.{frames_hold_common_part}
 use Rattle.near_laws.proofs.Far.Shows.{far_shows_no_more}
 use Rattle.relate_core.proofs.Taking.{taken_either}
 
-module _ (a b : Figure) (valid : AreValid a b) (rule : Rule) (query : Query) (x y : Extent) (is_x : IsExtent a rule x) (is_y : IsExtent b rule y)
-    (u v w : Option Window) (frame_x : u ≡ frame x) (frame_y : v ≡ frame y) (common : IsCommonPart u v w) (fresh far : Progress)
+module _ (a b : Figure) (valid : AreValid a b) (rule : Rule) (query : Query) (x y : Extent) (is_x : IsExtent a rule x)
+    (is_y : IsExtent b rule y) (u v w : Option Window) (frame_x : u ≡ frame x) (frame_y : v ≡ frame y) (common : IsCommonPart u v w) (fresh far : Progress)
     (value : (m : Matrix) → value_at fresh m ≡ value_of query (dimension_of a) (dimension_of b) m)
     (start : (c : Cell) → dimension_at (matrix_of fresh) c ≡ start_dimension c)
     (taken_far : HasTakenIn (λ c d. d ≡ beyond_cell x y w c) fresh far) where

@@ -1,6 +1,6 @@
 -- The count of looks: where the first i of the few nodes decide a query, a run over those of them that are near a box, begun with all that
 -- is known of the far ones, has at most i looks.
-use Rattle.std.proofs.Common.{◌≡◌, ◌≤◌, ◌<◌, ◌+◌, ◌⊎◌, inl, inr, ℕ, Bool, List, length, take, ap, refl, sym, ◌∙◌, subst, arith}
+use Rattle.std.proofs.Common.{◌≡◌, ◌≤◌, ◌<◌, ◌+◌, ◌⊎◌, inl, inr, ℕ, Bool, List, take, ap, refl, sym, ◌∙◌, subst, arith}
 use Rattle.std.specs.Prelude.{Option}
 use Rattle.std.proofs.lemmas.Bool.{cases_lt}
 use Rattle.std.proofs.lemmas.List.Elements.{All-contains, All-take}
@@ -61,7 +61,8 @@ module _ (a b : Figure) (valid : AreValid a b) (rule : Rule) (query : Query) (di
     (near? : (v : Point) → IsNearWindow w v ⊎ (¬ IsNearWindow w v))
     (far_shows : (v : Point) → ¬ IsNearWindow w v → (c : Cell) (d : Dim) → IsSampleAt a b rule v c d → rank d ≤ rank (far c))
     (fresh start : Progress) (value : (m : Matrix) → value_at fresh m ≡ value_of query dim_a dim_b m)
-    (starts : (c : Cell) → dimension_at (matrix_of fresh) c ≡ start_dimension c) (taken_far : HasTakenIn (λ c d. d ≡ far c) fresh start) where
+    (starts : (c : Cell) → dimension_at (matrix_of fresh) c ≡ start_dimension c)
+    (taken_far : HasTakenIn (λ c d. d ≡ far c) fresh start) where
   -- ---- where some nodes decide
   module _ (nodes : List Node) (decide : DecideQuery a b rule query dim_a dim_b nodes) where
     -- it isn't open with a matrix that is at least theirs
@@ -82,7 +83,8 @@ module _ (a b : Figure) (valid : AreValid a b) (rule : Rule) (query : Query) (di
         later n l c = let low = more c in let high = l c in omega (arith, low, high)
 
     -- ---- after entries among which are all that are at one of the nodes
-    module _ (few : (v : Point) → IsOneOf nodes v → (n : Node) × IsSamePoint v (point_at n) × IsFewNode a b (point_at n) × IsOneOf nodes (point_at n))
+    module _ (few : (v : Point) → IsOneOf nodes v
+        → (n : Node) × IsSamePoint v (point_at n) × IsFewNode a b (point_at n) × IsOneOf nodes (point_at n))
         (entries : List Entry) (listed : (v : Point) → IsNearNode w a b v → IsOneOf nodes v → IsListed entries v)
         (o : WasOpenAfter a b rule entries start) where
       -- its matrix is at least theirs
@@ -152,7 +154,7 @@ module _ (a b : Figure) (valid : AreValid a b) (rule : Rule) (query : Query) (di
       h.1,
       h.4,
       All-contains (λ n. IsFewNode a b (point_at n)) (take i nodes) h.1 (All-take (λ n. IsFewNode a b (point_at n)) i nodes are.only)
-      (h.0, h.2, h.3),
+          (h.0, h.2, h.3),
       (h.0, h.1, h.2, h.3, same_refl (point_at h.1)),
     )
 

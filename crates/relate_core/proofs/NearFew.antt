@@ -1,7 +1,7 @@
 -- Entries whose nodes are among some nodes, both in order: they are no more than the nodes, and those of the first i nodes are among the
 -- first j entries, for some j that is at most i.
 use Rattle.std.proofs.Common.{◌≡◌, ◌≤◌, ◌⊎◌, inl, inr, ℕ, zero, suc, ◌<◌, List, [], ◌∷◌, length, take, get_or}
-use Rattle.std.proofs.Common.{refl, sym, ◌∙◌, subst, arith, Less, Equal}
+use Rattle.std.proofs.Common.{sym, ◌∙◌, subst, arith, Less, Equal}
 use Rattle.std.specs.List.{All, AllPairs}
 use Rattle.std.proofs.lemmas.List.Elements.{All-cons, All-contains, All-weaker}
 use Rattle.plane_laws.proofs.Points.Order.{compare_points_total, compare_points_same}

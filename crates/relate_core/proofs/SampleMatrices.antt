@@ -1,5 +1,5 @@
 -- A matrix of the samples at some points can't fail to exist.
-use Rattle.std.proofs.Common.{◌≡◌, ◌≤◌, ◌⊎◌, inl, inr, ℕ, refl, sym, subst, arith}
+use Rattle.std.proofs.Common.{◌≡◌, ◌≤◌, ◌⊎◌, ℕ, refl, sym, subst, arith}
 use Rattle.im_matrix.proofs.Laws.{rank-most, matrix_by, dimension_at-matrix_by}
 use Rattle.im_matrix.specs.Cells.{rank, cell, start_dimension}
 use Rattle.im_matrix.specs.declared.Cell.{Cell}

@@ -1,5 +1,5 @@
 -- No sample in a sector has a boundary part; so no matrix of samples is Two in every cell.
-use Rattle.std.proofs.Common.{◌≡◌, ◌⊎◌, inl, inr, ℕ, suc, ◌+◌, true, false, ◌||◌, List, [], ◌∷◌, ◌++◌, ap, refl, sym, ◌∙◌, subst, arith}
+use Rattle.std.proofs.Common.{◌≡◌, ◌⊎◌, inl, inr, ℕ, suc, ◌+◌, false, ◌||◌, List, [], ◌∷◌, ap, refl, sym, ◌∙◌, subst, arith}
 use Rattle.im_matrix.specs.Cells.{cell, dimension_at, start_dimension}
 use Rattle.im_matrix.specs.declared.Cell.{Cell}
 use Rattle.im_matrix.specs.declared.Dim.TheVariants.{Empty, Two}

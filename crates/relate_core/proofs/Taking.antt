@@ -101,7 +101,8 @@ taken_with_known First All p q one known h = record {
     whole (inl s) = inl s
     whole (inr f) = inr (λ c d s. each c d (known c d s))
       where
-        each : (c : Cell) (d : Dim) → First c d ⊎ (rank d ≤ rank (dimension_at (matrix_of p) c)) → rank d ≤ rank (dimension_at (matrix_of q) c)
+        each : (c : Cell) (d : Dim) → First c d ⊎ (rank d ≤ rank (dimension_at (matrix_of p) c))
+            → rank d ≤ rank (dimension_at (matrix_of q) c)
         each c d (inl s) = f c d s
         each c d (inr low) = let more = h.kept c in omega (arith, low, more)
 

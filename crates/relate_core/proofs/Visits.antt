@@ -1,16 +1,12 @@
--- What the steps of the loop over a table, over the rays of a node and over its sectors take in.
-use Rattle.std.proofs.Common.{◌≡◌, ◌⊎◌, inl, inr, ℕ, ◌+◌, ◌<◌, ◌≤◌, List, [], ◌∷◌, length, refl, sym, subst, arith}
-use Rattle.std.specs.List.{All}
+-- What the steps of the loops over the rays of a node and over its sectors take in.
+use Rattle.std.proofs.Common.{◌≡◌, ◌⊎◌, inl, inr, ℕ, ◌+◌, ◌<◌, ◌≤◌, List, length, refl, sym, subst, arith}
 use Rattle.std.proofs.lemmas.Bool.{cases_lt}
-use Rattle.std.proofs.lemmas.List.Elements.{All-tail}
 use Rattle.std.proofs.lemmas.Option.{slice_get_within}
 use Rattle.im_matrix.specs.declared.Cell.{Cell}
 use Rattle.im_matrix.specs.declared.Dim.{Dim}
 use Rattle.im_matrix.specs.declared.Dim.TheVariants.{Empty, Zero, One, Two}
-use Rattle.plane_laws.specs.Plane.{Point, IsSamePoint}
-use Rattle.plane_laws.proofs.Points.Same.{same_refl}
+use Rattle.plane_laws.specs.Plane.{Point}
 use Rattle.plane_laws.specs.Directions.{Direction}
-use Rattle.plane_exact.specs.NodePoints.{point_at}
 use Rattle.plane_exact.specs.Orders.{direction_of}
 use Rattle.plane_exact.specs.declared.dir.Dir.{Dir}
 use Rattle.point_set.specs.declared.figure.Figure.{Figure}
@@ -18,22 +14,17 @@ use Rattle.point_set.specs.declared.rule.Rule.{Rule}
 use Rattle.point_set.specs.Germ.{IsPairGerm}
 use Rattle.point_set.specs.Nodes.{segs_of_both, AreEdgeDirections}
 use Rattle.point_set.specs.Relation.{IsInCell}
-use Rattle.point_set.specs.Samples.{IsSampleAt, IsSample}
+use Rattle.point_set.specs.Samples.{IsSampleAt}
 use Rattle.point_set.specs.Sectors.{IsInSector, sectors_of}
 use Rattle.point_set.specs.Validity.{IsAtPlace}
 use Rattle.point_set.specs.Visible.{AreValid}
 use Rattle.figure_laws.proofs.Points.Kinds.{one_part}
-use Rattle.figure_laws.proofs.Lists.Search.{any_left, any_right}
 use Rattle.germ_laws.proofs.Rays.Places.{HasItem, item_at}
 use Rattle.ring_laws.proofs.Germs.Areas.{pair_germ_one}
 use Rattle.cell_laws.proofs.Directions.Middles.{middle_in_sector, HasMiddle, middle_of}
-use Rattle.cell_laws.proofs.Samples.Same.{sample_same}
-use Rattle.node_table.specs.declared.entry.Entry.{Entry}
 use Rattle.topo_pred.specs.declared.Progress.{Progress}
-use Rattle.relate_core.specs.Tables.{IsListed}
-use Rattle.relate_core.specs.Taking.{HasTakenIn, HasAllSections, IsOne, IsSampleOf}
+use Rattle.relate_core.specs.Taking.{HasTakenIn, IsOne, IsSampleOf}
 use Rattle.relate_core.proofs.Contributions.{sample_along, along_sample, sample_within, within_sample}
-use Rattle.relate_core.proofs.Entries.{listed_first}
 use Rattle.relate_core.proofs.Taking.{taken_alike, taken_together, taken_nothing}
 
 -- ---- the rays of a node, one by one

@@ -57,8 +57,8 @@ fn take_in_near<A: Target, B: Target>(
     rule: Rule,
     progress: &mut Progress,
 ) -> Result<(), NoMemory>
-    ensures taken { OnOk result (HasTakenIn (IsSample (IsNearNode w (A.figure a.old) (B.figure b.old)) (A.figure a.old) (B.figure b.old) rule)
-        progress.old progress.new) }
+    ensures taken { OnOk result (HasTakenIn (IsSample (IsNearNode w (A.figure a.old) (B.figure b.old)) (A.figure a.old) (B.figure b.old)
+        rule) progress.old progress.new) }
     ensures figure_a { A.figure a.new ≡ A.figure a.old }
     ensures figure_b { B.figure b.new ≡ B.figure b.old }
     ensures looks_a { IsNearRun w (A.figure a.old) (B.figure b.old) rule progress.old (A.looks a.old) (A.looks a.new) }

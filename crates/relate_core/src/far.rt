@@ -58,19 +58,30 @@ fn shared(u: &Window, v: &Window) -> Window
 }
 
 /// Takes in what the envelopes of two figures tell of what they have outside of a box, where the other figure isn't.
-pub(crate) fn take_in_far(
-    progress: &mut Progress,
-    x: &Extent,
-    y: &Extent,
-    w: Option<Window>,
-)
+pub(crate) fn take_in_far(progress: &mut Progress, x: &Extent, y: &Extent, w: Option<Window>)
     requires start { dimension_at (matrix_of progress.old) (cell loc.Exterior loc.Exterior) ≡ dim.Two }
     ensures taken { HasTakenIn (λ c d. d ≡ near.beyond_cell x.now y.now w c) progress.old progress.new }
 {
-    take_in_cell(progress, outside_b(Loc::Interior), beyond(x, w, Loc::Interior));
-    take_in_cell(progress, outside_b(Loc::Boundary), beyond(x, w, Loc::Boundary));
-    take_in_cell(progress, outside_a(Loc::Interior), beyond(y, w, Loc::Interior));
-    take_in_cell(progress, outside_a(Loc::Boundary), beyond(y, w, Loc::Boundary));
+    take_in_cell(
+        progress,
+        outside_b(Loc::Interior),
+        beyond(x, w, Loc::Interior),
+    );
+    take_in_cell(
+        progress,
+        outside_b(Loc::Boundary),
+        beyond(x, w, Loc::Boundary),
+    );
+    take_in_cell(
+        progress,
+        outside_a(Loc::Interior),
+        beyond(y, w, Loc::Interior),
+    );
+    take_in_cell(
+        progress,
+        outside_a(Loc::Boundary),
+        beyond(y, w, Loc::Boundary),
+    );
 }
 
 /// The cell of a part of the first figure and the exterior of the second.
@@ -97,13 +108,10 @@ fn outside_a(part: Loc) -> Cell
 fn beyond(x: &Extent, w: Option<Window>, part: Loc) -> Dim
     ensures beyond { result ≡ near.beyond x.now w part }
 {
+    let areas = sticks_out(x.areas, w);
     match part {
-        Loc::Interior => interior_by(
-            sticks_out(x.areas, w),
-            sticks_out(x.lines, w),
-            sticks_out(x.points, w),
-        ),
-        Loc::Boundary => boundary_by(sticks_out(x.areas, w), sticks_out(x.ends, w)),
+        Loc::Interior => interior_by(areas, sticks_out(x.lines, w), sticks_out(x.points, w)),
+        Loc::Boundary => boundary_by(areas, sticks_out(x.ends, w)),
         Loc::Exterior => Dim::Empty,
     }
 }

@@ -1,4 +1,4 @@
-use Rattle.std.proofs.Common.{◌≡◌, ◌∙◌, ℕ, List, ap, not, refl, sym, subst}
+use Rattle.std.proofs.Common.{◌≡◌, ◌∙◌, ℕ, List, sym, subst}
 use Rattle.std.specs.Prelude.{Option}
 use Rattle.std.proofs.lemmas.Result.{on_ok_weaker}
 use Rattle.plane_exact.specs.declared.window.Window.{Window}
@@ -13,7 +13,7 @@ use Rattle.relate_core.specs.Looks.{IsNearRun, IsRunOf, runs}
 use Rattle.relate_core.specs.Tables.{IsListed, IsTableOf}
 use Rattle.relate_core.specs.Taking.{HasTakenIn}
 use Rattle.relate_core.proofs.Answered.{taken_at_nodes}
-use Rattle.relate_core.proofs.Taking.{taken_nothing, taken_where_known}
+use Rattle.relate_core.proofs.Taking.{taken_where_known}
 use Rattle.relate_core.proofs.evaluation.take_in_near.Goals as goal
 
 module _ (a b : Figure) (valid : AreValid a b) (rule : Rule) (f g : Figure) (same_f : f ≡ a) (same_g : g ≡ b) (w u : Option Window)

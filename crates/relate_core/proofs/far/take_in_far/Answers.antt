@@ -21,8 +21,12 @@ returns c =
     record {
       taken =
           taken_four c.args.x.now c.args.y.now c.args.w p q r s t c.requires.start
-          (same_one p q c.outside_b.result _ c.beyond.result _ c.outside_b.ensures.cell c.beyond.ensures.beyond c.take_in_cell.ensures.taken)
-          (same_one q r c.outside_b-2.result _ c.beyond-2.result _ c.outside_b-2.ensures.cell c.beyond-2.ensures.beyond c.take_in_cell-2.ensures.taken)
-          (same_one r s c.outside_a.result _ c.beyond-3.result _ c.outside_a.ensures.cell c.beyond-3.ensures.beyond c.take_in_cell-3.ensures.taken)
-          (same_one s t c.outside_a-2.result _ c.beyond-4.result _ c.outside_a-2.ensures.cell c.beyond-4.ensures.beyond c.take_in_cell-4.ensures.taken);
+          (same_one p q c.outside_b.result _ c.beyond.result _ c.outside_b.ensures.cell c.beyond.ensures.beyond
+          c.take_in_cell.ensures.taken)
+          (same_one q r c.outside_b-2.result _ c.beyond-2.result _ c.outside_b-2.ensures.cell c.beyond-2.ensures.beyond
+          c.take_in_cell-2.ensures.taken)
+          (same_one r s c.outside_a.result _ c.beyond-3.result _ c.outside_a.ensures.cell c.beyond-3.ensures.beyond
+          c.take_in_cell-3.ensures.taken)
+          (same_one s t c.outside_a-2.result _ c.beyond-4.result _ c.outside_a-2.ensures.cell c.beyond-4.ensures.beyond
+          c.take_in_cell-4.ensures.taken);
     }
