@@ -1,5 +1,4 @@
 mod Answered
-mod CommonParts
 mod Contributions
 mod Crossings
 mod EdgeSections
@@ -10,6 +9,7 @@ mod Filled
 mod Passes
 mod Positions
 mod Sets
+mod Shared
 mod Taking
 mod Together
 mod Visits

@@ -8,7 +8,7 @@ ghost use Rattle.relate_core.specs.Tables.{AreNodes};
 ghost use Rattle.relate_core.specs.NodeSets.{AddsNear, AreEdgesNear, CrossesOne, CrossesSome, CrossesWithin, HasTwoEnds};
 ghost use Rattle.relate_core.specs.NodeSets.{IsAtEnd, IsAtOneOf, IsAtStart, IsAtThe};
 
-use crate::edges::{common_part, edge_at, edges_near};
+use crate::edges::{edge_at, edges_near, shared};
 use node_table::NodeTable;
 use plane_exact::{NoMemory, Node, Path, PlaceList, Seg, SegList, Window};
 use point_set::{Figure, Paths, Target};
@@ -167,7 +167,7 @@ fn add_crossings_with<T: Target>(
     ensures figure { T.figure t.new ≡ T.figure t.old }
     ensures looks { T.looks t.new ≡ T.looks t.old }
 {
-    t.edges_in(common_part(Window::of(edge), w), near)?;
+    t.edges_in(shared(&Window::of(edge), &w), near)?;
     for place in near.as_slice() {
         if let Meet::At(n) = meet(edge, edge_at(t, *place).seg) {
             add_near(nodes, n, w)?;
