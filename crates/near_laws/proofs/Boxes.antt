@@ -1,3 +1,4 @@
--- Boxes round points and round edges.
-pub mod RoundBox
-pub mod NearEdges
+-- Boxes: their sides, what is in one, and what is near one.
+pub mod Sides
+pub mod Round
+pub mod Edges

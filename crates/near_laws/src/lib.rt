@@ -2,3 +2,7 @@
 //! four envelopes of each figure tell all the rest.
 //! Lemmas stand in proofs/, by theme; functions do nothing, and their contracts are laws.
 #![tactic(auto)]
+
+mod laws;
+
+pub use laws::law_near;

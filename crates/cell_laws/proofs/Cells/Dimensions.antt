@@ -11,17 +11,17 @@ use Rattle.im_matrix.specs.declared.Matrix.{Matrix}
 use Rattle.plane_laws.specs.Plane.{Point}
 use Rattle.point_set.specs.declared.figure.Figure.{Figure}
 use Rattle.point_set.specs.declared.rule.Rule.{Rule}
-use Rattle.point_set.specs.Dimension.{HoldsTriangle, HoldsSegment, HoldsPoint, IsDimension}
+use Rattle.point_set.specs.Dimension.{HoldsTriangle, HoldsSegment, HoldsPoint, IsDimension, ShowsDimension}
 use Rattle.point_set.specs.Nodes.{IsNode}
 use Rattle.point_set.specs.Relation.{IsInCell, IsMatrixOf}
 use Rattle.point_set.specs.Samples.{IsGreatest, IsSample, IsSampleMatrix}
 use Rattle.point_set.specs.Visible.{AreValid}
 use Rattle.cell_laws.proofs.Cells.Outside.{outside_holds_triangle}
-use Rattle.cell_laws.proofs.Cells.Seen.{Holds, sample_shows, triangle_seen, segment_seen, point_sampled}
+use Rattle.cell_laws.proofs.Cells.Seen.{sample_shows, triangle_seen, segment_seen, point_sampled}
 
 -- ---- a set of points
 -- samples show what the set holds, and what the set holds is seen in a sample that is at least as great
-module _ (Set : Point → Type 0) (Is : Dim → Type 0) (shows : (e : Dim) → Is e → Holds Set e) (two : HoldsTriangle Set → Is Two)
+module _ (Set : Point → Type 0) (Is : Dim → Type 0) (shows : (e : Dim) → Is e → ShowsDimension Set e) (two : HoldsTriangle Set → Is Two)
     (one : HoldsSegment Set → Is Two ⊎ Is One) (zero : HoldsPoint Set → Is Two ⊎ (Is One ⊎ Is Zero)) where
   -- with no sample of Two there is no triangle
   no_triangle : (d : Dim) → IsGreatest Is d → rank d ≤ 2 → ¬ HoldsTriangle Set

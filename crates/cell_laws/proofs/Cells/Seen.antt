@@ -12,7 +12,7 @@ use Rattle.plane_laws.specs.Along.{IsInCone}
 use Rattle.plane_exact.specs.Orders.{direction_of}
 use Rattle.point_set.specs.declared.figure.Figure.{Figure}
 use Rattle.point_set.specs.declared.rule.Rule.{Rule}
-use Rattle.point_set.specs.Dimension.{HoldsTriangle, HoldsSegment, HoldsPoint}
+use Rattle.point_set.specs.Dimension.{HoldsTriangle, HoldsSegment, HoldsPoint, ShowsDimension}
 use Rattle.point_set.specs.Nodes.{IsNode, segs_of_both}
 use Rattle.point_set.specs.Relation.{IsInCell}
 use Rattle.point_set.specs.Rings.{is_on_edges}
@@ -30,20 +30,13 @@ use Rattle.cell_laws.proofs.Germs.Along.{germ_holds_segment}
 use Rattle.cell_laws.proofs.Germs.Sectors.{sector_is_one}
 use Rattle.cell_laws.proofs.Samples.Seen.{run_to, seen_in_sector, seen_on_edge}
 
--- what a set of points holds where it has a dimension at least
-abbrev pub Holds : (Point → Type 0) → Dim → Type 0
-Holds Set Empty = Unit {0}
-Holds Set Zero = HoldsPoint Set
-Holds Set One = HoldsSegment Set
-Holds Set Two = HoldsTriangle Set
-
 module _ (a b : Figure) (valid : AreValid a b) (rule : Rule) where
   -- a sample at a node
   abbrev pub Sampled : Cell → Dim → Type 0
   Sampled c d = IsSample (IsNode a b) a b rule c d
 
   -- a sample shows its dimension
-  pub sample_shows : (c : Cell) (d : Dim) → Sampled c d → Holds (IsInCell a b rule c) d
+  pub sample_shows : (c : Cell) (d : Dim) → Sampled c d → ShowsDimension (IsInCell a b rule c) d
   sample_shows c Empty s = tt
   sample_shows c Zero s = record { p = s.v; held = s.sample }
   sample_shows c One s =

@@ -1,10 +1,7 @@
--- An edge that holds a point near a box meets the box: the box round the point is within the edge's.
+-- An edge that holds a point near a box meets the box.
 use Rattle.std.proofs.Common.{refl}
 use Rattle.std.specs.Int.{int_max, int_min}
-use Rattle.plane_laws.proofs.Points.Same.{same_refl}
-use Rattle.plane_laws.proofs.Segments.Mixes.{segment_same}
 use Rattle.plane_laws.specs.Plane.{Point}
-use Rattle.plane_exact.proofs.Laws.{least_of_ends}
 use Rattle.plane_exact.specs.Places.{point_of}
 use Rattle.plane_exact.specs.Windows.{IsInWindow, IsLeastWindow}
 use Rattle.plane_exact.specs.declared.point.Seg.{Seg}
@@ -12,9 +9,12 @@ use Rattle.plane_exact.specs.declared.window.Window.{Window}
 use Rattle.point_set.specs.declared.figure.Figure.{Figure}
 use Rattle.point_set.specs.Edges.{MeetsWindow}
 use Rattle.point_set.specs.Validity.{IsOnEdge}
-use Rattle.ring_laws.proofs.Germs.Edges.{on_true}
-use Rattle.near_laws.proofs.Boxes.RoundBox.{within_holds}
 use Rattle.near_laws.specs.Near.{IsNearBox, LawNearEdgesMeet}
+use Rattle.plane_laws.proofs.Points.Same.{same_refl}
+use Rattle.plane_laws.proofs.Segments.Mixes.{segment_same}
+use Rattle.plane_exact.proofs.Laws.{least_of_ends}
+use Rattle.ring_laws.proofs.Germs.Edges.{on_true}
+use Rattle.near_laws.proofs.Boxes.Sides.{within_holds}
 
 -- the box of an edge
 abbrev pub box_of : Seg → Window
@@ -29,7 +29,7 @@ box_of e = record {
 pub box_least : (e : Seg) → IsLeastWindow (IsOnEdge e) (box_of e)
 box_least e = least_of_ends (box_of e) e.a e.b refl refl refl refl
 
--- each box that holds an edge holds what a box and the least box round a near point of the edge have in common
+-- each least box of an edge holds what a box and the least box round a near point of the edge have in common
 pub holds_near : (e : Seg) (box : Window) → IsLeastWindow (IsOnEdge e) box → (w : Window) (v : Point) (near : IsNearBox w v) → IsOnEdge e v
     → IsInWindow box near.common.point
 holds_near e box least w v near on =
@@ -45,7 +45,7 @@ edge_meets w v near e on = record {
   common = record { point = near.common.point; here = holds_near e (box_of e) (box_least e) w v near on; there = near.common.there };
 }
 
--- as each edge of a figure that holds a near point does
+-- so the edges that meet a box are all that hold a point near it
 pub near_edges_meet : (f : Figure) → LawNearEdgesMeet f
 near_edges_meet f w v near place edge is holds =
     record { edge = edge; edge_is = is; meets = edge_meets w v near edge.seg (on_true {p = v} {f = edge.seg} holds) }

@@ -1,0 +1,19 @@
+//! Laws of the near nodes: each is a function that does nothing, and its contract is the law. It looks at the two figures, so that
+//! they are known to be valid.
+
+ghost use Rattle.near_laws.specs.Near.{LawBeyondIsThere, LawFarShowsNoMore, LawFrameHolds, LawNearEdgesMeet};
+
+use point_set::{Rule, Valid};
+
+/// The envelope of a whole figure holds all of it. Where a box holds the common part of two figures, what their envelopes tell of
+/// each cell is there, and a point that isn't near the box shows no more than that. The edges that meet a box are all that hold a
+/// point near it.
+pub fn law_near(a: &Valid, b: &Valid, rule: Rule)
+    ensures frame { LawFrameHolds a.now rule }
+    ensures beyond { LawBeyondIsThere a.now b.now rule }
+    ensures far { LawFarShowsNoMore a.now b.now rule }
+    ensures edges { LawNearEdgesMeet a.now }
+{
+    a.figure();
+    b.figure();
+}
