@@ -1,7 +1,6 @@
 -- Where two edges have one common point alone: what a test of two edges says, and the edges that a pass over the places near an edge and a
 -- box finds.
 use Rattle.std.proofs.Common.{◌≡◌, ℕ, true, false, List, refl, sym, ◌∙◌, subst}
-use Rattle.std.specs.Prelude.{◌↔◌}
 use Rattle.std.proofs.lemmas.Bool.{true≢false}
 use Rattle.std.proofs.lemmas.Option.{slice_get-get_or}
 use Rattle.plane_laws.proofs.Points.Order.{compare_points_same}
@@ -80,7 +79,7 @@ module _ (w : Window) (e : Seg) (edges : List OwnedEdge) (place : ℕ) (other : 
 
 -- the edges that meet all that the edge's box and a box have in common are all that cross the edge near that box
 pub all_crossings : (f : Figure) (e : Seg) (w around common : Window) → IsLeastWindow (IsOnEdge e) around
-    → ((p : Point) → (IsInWindow around p × IsInWindow w p) ↔ IsInWindow common p) → (places : List ℕ)
+    → ((p : Point) → IsInWindow around p → IsInWindow w p → IsInWindow common p) → (places : List ℕ)
     → ArePlacesIn common (edges_of_figure f) places → (old new : List Entry)
     → AddsNear w (IsOfSome (CrossesAt e (edges_of_figure f)) places) old new → AddsNear w (CrossesOne e (segs_of f)) old new
 all_crossings f e w around common least holds places found old new h = adds_same w there back h
@@ -108,7 +107,7 @@ all_crossings f e w around common least holds places found old new h = adds_same
                 common = record {
                   point = near.common.point;
                   here = holds_near t.edge.seg (box_of t.edge.seg) (box_least t.edge.seg) w v near crosses.on_f;
-                  there = (holds near.common.point).0 (holds_near e around least w v near crosses.on_e, near.common.there);
+                  there = holds near.common.point (holds_near e around least w v near crosses.on_e) near.common.there;
                 };
               };
             }) in

@@ -1,5 +1,4 @@
 mod Answered
-mod CommonParts
 mod Contributions
 mod Crossings
 mod EdgeSections
@@ -17,6 +16,7 @@ mod Runs
 mod SampleMatrices
 mod SectorSamples
 mod Sets
+mod Shared
 mod Taking
 mod Together
 mod Visits

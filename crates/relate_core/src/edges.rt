@@ -1,4 +1,4 @@
-ghost use Rattle.std.specs.Prelude.{◌≡◌, ◌<◌, ◌↔◌, IfOk, length};
+ghost use Rattle.std.specs.Prelude.{◌≡◌, ◌<◌, IfOk, length};
 ghost use Rattle.plane_laws.specs.Plane.{Point};
 ghost use Rattle.plane_exact.specs.Windows.{IsInWindow};
 ghost use Rattle.point_set.specs.Edges.{edges_of_figure, HasHand, IsEdgeAt};
@@ -16,9 +16,10 @@ pub(crate) const EVERYWHERE: Window = Window {
     high_y: LIMIT,
 };
 
-/// The common part of two boxes.
-pub(crate) fn common_part(u: Window, v: Window) -> Window
-    ensures common { (p : Point) → (IsInWindow u p × IsInWindow v p) ↔ IsInWindow result p }
+/// The box of all points that two boxes hold.
+pub(crate) fn shared(u: &Window, v: &Window) -> Window
+    ensures holds { (p : Point) → IsInWindow u.now p → IsInWindow v.now p → IsInWindow result p }
+    ensures only { (p : Point) → IsInWindow result p → IsInWindow u.now p × IsInWindow v.now p }
 {
     Window {
         low_x: u.low_x.max(v.low_x),

@@ -1,16 +1,17 @@
 ghost use Rattle.std.specs.Prelude.{◌≡◌, OnOk, IfOk, All, Some};
 ghost use Rattle.plane_exact.specs.NodePoints.{point_at};
+ghost use Rattle.plane_exact.specs.Places.{IsInLimit};
 ghost use Rattle.near_laws.specs.Near.{IsNearNode};
 ghost use Rattle.point_set.specs.Nodes.{all_positions, segs_of};
 ghost use Rattle.point_set.specs.Shape.{has_item, IsLineShaped, IsWayInLimit, IsWellShaped};
 ghost use Rattle.point_set.specs.Validity.{IsValid};
 ghost use Rattle.relate_core.specs.Tables.{AreNodes};
 ghost use Rattle.relate_core.specs.NodeSets.{AddsNear, AreEdgesNear, CrossesOne, CrossesSome, CrossesWithin, HasTwoEnds};
-ghost use Rattle.relate_core.specs.NodeSets.{IsAtEnd, IsAtOneOf, IsAtStart, IsAtThe};
+ghost use Rattle.relate_core.specs.NodeSets.{IsAtEnd, IsAtOneOf, IsAtPosition, IsAtStart, IsAtThe};
 
-use crate::edges::{common_part, edge_at, edges_near};
+use crate::edges::{edge_at, edges_near, shared};
 use node_table::NodeTable;
-use plane_exact::{NoMemory, Node, Path, PlaceList, Seg, SegList, Window};
+use plane_exact::{NoMemory, Node, Path, PlaceList, Pt, Seg, SegList, Window};
 use point_set::{Figure, Paths, Target};
 use seg_cross::{Meet, meet};
 use std::alloc::Global;
@@ -53,6 +54,17 @@ fn add_near(nodes: &mut NodeTable, n: Node, w: Window) -> Result<(), NoMemory>
     Ok(())
 }
 
+/// Puts a position in if it is near a box: the least box round a position holds it alone.
+fn add_position(nodes: &mut NodeTable, p: Pt, w: Window) -> Result<(), NoMemory>
+    requires limit { IsInLimit p }
+    ensures nodes { OnOk result (AddsNear w (IsAtPosition p) nodes.old nodes.new) }
+{
+    if Window::of(Seg { a: p, b: p }).meets(&w) {
+        nodes.add_node(Node::at_point(p))?;
+    }
+    Ok(())
+}
+
 /// Puts all positions of a figure that are near a box in: its points, the first position of each line, and the ends of its edges
 /// that meet the box. Each position of a way is its first one or an end of one of its edges, and rings have edges.
 fn add_positions(
@@ -77,7 +89,7 @@ fn add_points(nodes: &mut NodeTable, points: &Path, w: Window) -> Result<(), NoM
     ensures nodes { OnOk result (AddsNear w (IsAtOneOf points.now) nodes.old nodes.new) }
 {
     for p in points.as_slice() {
-        add_near(nodes, Node::at_point(*p), w)?;
+        add_position(nodes, *p, w)?;
     }
     Ok(())
 }
@@ -89,7 +101,7 @@ fn add_starts(nodes: &mut NodeTable, lines: &Paths, w: Window) -> Result<(), NoM
 {
     for line in lines.as_slice() {
         if let Some(start) = line.as_slice().first() {
-            add_near(nodes, Node::at_point(*start), w)?;
+            add_position(nodes, *start, w)?;
         }
     }
     Ok(())
@@ -101,8 +113,8 @@ fn add_ends(nodes: &mut NodeTable, edges: &SegList, w: Window) -> Result<(), NoM
     ensures nodes { OnOk result (AddsNear w (IsAtEnd edges.now) nodes.old nodes.new) }
 {
     for edge in edges.as_slice() {
-        add_near(nodes, Node::at_point(edge.a), w)?;
-        add_near(nodes, Node::at_point(edge.b), w)?;
+        add_position(nodes, edge.a, w)?;
+        add_position(nodes, edge.b, w)?;
     }
     Ok(())
 }
@@ -167,7 +179,7 @@ fn add_crossings_with<T: Target>(
     ensures figure { T.figure t.new ≡ T.figure t.old }
     ensures looks { T.looks t.new ≡ T.looks t.old }
 {
-    t.edges_in(common_part(Window::of(edge), w), near)?;
+    t.edges_in(shared(&Window::of(edge), &w), near)?;
     for place in near.as_slice() {
         if let Meet::At(n) = meet(edge, edge_at(t, *place).seg) {
             add_near(nodes, n, w)?;

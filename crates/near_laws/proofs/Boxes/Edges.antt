@@ -29,7 +29,7 @@ box_of e = record {
 pub box_least : (e : Seg) → IsLeastWindow (IsOnEdge e) (box_of e)
 box_least e = least_of_ends (box_of e) e.a e.b refl refl refl refl
 
--- each box that holds an edge holds what a box and the least box round a near point of the edge have in common
+-- each least box of an edge holds what a box and the least box round a near point of the edge have in common
 pub holds_near : (e : Seg) (box : Window) → IsLeastWindow (IsOnEdge e) box → (w : Window) (v : Point) (near : IsNearBox w v) → IsOnEdge e v
     → IsInWindow box near.common.point
 holds_near e box least w v near on =

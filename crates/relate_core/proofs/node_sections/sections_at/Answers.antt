@@ -1,7 +1,6 @@
-use Rattle.std.proofs.Common.{◌+◌, List, [], ℕ, append-nil, sym, ◌∙◌, subst, arith}
+use Rattle.std.proofs.Common.{◌+◌, List, [], append-nil, sym, ◌∙◌, subst, arith}
 use Rattle.plane_exact.specs.NodePoints.{point_at}
 use Rattle.point_set.specs.declared.figure.Figure.{Figure}
-use Rattle.point_set.specs.Edges.{edges_of_figure}
 use Rattle.fan_order.specs.declared.section.Section.{Section}
 use Rattle.relate_core.specs.Tables.{AddsSectionsAt}
 use Rattle.relate_core.proofs.EdgeSections.{HasSectionsBefore, of_edge, none_of_edge, sections_more, all_sections}

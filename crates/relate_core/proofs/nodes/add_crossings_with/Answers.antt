@@ -17,8 +17,8 @@ pub edge_at-requires : goal.edge_at-requires
 edge_at-requires g c =
     let f = g.T.Target.figure c.edges_in.new.self in
     let places = c.as_slice-place-items.result.now in
-    let near = as_read f c.common_part.result places _ c.as_slice-place-items.ensures.items c.in_ok-edges_in.ensures.places in
-    record { within = place_within f c.common_part.result places near c.loop-place.place-index 0 c.loop-place-test.true }
+    let near = as_read f c.shared.result places _ c.as_slice-place-items.ensures.items c.in_ok-edges_in.ensures.places in
+    record { within = place_within f c.shared.result places near c.loop-place.place-index 0 c.loop-place-test.true }
 
 pub loop-place-preserved : goal.loop-place-preserved
 loop-place-preserved g c =
@@ -50,10 +50,10 @@ pub returns-clause-nodes : goal.returns-clause-nodes
 returns-clause-nodes g c =
     let f = g.T.Target.figure c.edges_in.new.self in
     let places = c.as_slice-place-items.result.now in
-    let near = as_read f c.common_part.result places _ c.as_slice-place-items.ensures.items c.in_ok-edges_in.ensures.places in
+    let near = as_read f c.shared.result places _ c.as_slice-place-items.ensures.items c.in_ok-edges_in.ensures.places in
     subst (λ (z : Figure). AddsNear c.args.w (CrossesOne c.args.edge (segs_of z)) c.args.nodes.now c.loop-place.nodes)
     c.in_ok-edges_in.ensures.figure
-    (all_crossings f c.args.edge c.args.w c.of.result c.common_part.result c.of.ensures.least c.common_part.ensures.common places
+    (all_crossings f c.args.edge c.args.w c.of.result c.shared.result c.of.ensures.least c.shared.ensures.holds places
     near c.args.nodes.now c.loop-place.nodes
     (adds_all c.args.w (CrossesAt c.args.edge (edges_of_figure f)) places c.loop-place.place-index c.args.nodes.now c.loop-place.nodes
     (omega (arith, c.loop-place-test.false)) c.loop-place.invariant))

@@ -7,9 +7,8 @@ use Rattle.relate_core.proofs.nodes.add_ends.Goals as goal
 pub loop-edge-preserved : goal.loop-edge-preserved
 loop-edge-preserved c =
     ends_next c.args.w c.as_slice-edge-items.result.now c.args.edges.now c.loop-edge.edge-index _ c.as_slice-edge-items.ensures.items
-    c.loop-edge-test.true c.args.nodes.now c.loop-edge.nodes c.add_near.new.nodes c.add_near-in-loop-edge.new.nodes c.at_point.result
-    c.at_point-in-loop-edge.result c.at_point.ensures.point c.at_point-in-loop-edge.ensures.point c.in_ok-add_near.ensures.nodes
-    c.in_ok-add_near-2.ensures.nodes c.loop-edge.invariant
+    c.loop-edge-test.true c.args.nodes.now c.loop-edge.nodes c.add_position.new.nodes c.add_position-in-loop-edge.new.nodes
+    c.in_ok-add_position.ensures.nodes c.in_ok-add_position-2.ensures.nodes c.loop-edge.invariant
 
 pub returns : goal.returns
 returns c = record {

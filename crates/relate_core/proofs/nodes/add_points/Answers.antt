@@ -7,8 +7,7 @@ use Rattle.relate_core.proofs.nodes.add_points.Goals as goal
 pub loop-p-preserved : goal.loop-p-preserved
 loop-p-preserved c =
     position_next c.args.w c.as_slice-p-items.result.now c.args.points.now c.loop-p.p-index _ c.as_slice-p-items.ensures.items
-    c.loop-p-test.true c.args.nodes.now c.loop-p.nodes c.add_near.new.nodes c.at_point.result c.at_point.ensures.point
-    c.in_ok-add_near.ensures.nodes c.loop-p.invariant
+    c.loop-p-test.true c.args.nodes.now c.loop-p.nodes c.add_position.new.nodes c.in_ok-add_position.ensures.nodes c.loop-p.invariant
 
 pub returns : goal.returns
 returns c = record {

@@ -8,7 +8,7 @@ use Rattle.relate_core.specs.NodeSets.{AddsNear, IsAtFirst}
 use Rattle.relate_core.proofs.Passes.{start_next, no_start}
 use Rattle.relate_core.proofs.Sets.{IsOfBefore, adds_all}
 use Rattle.relate_core.proofs.nodes.add_starts.Goals as goal
-use Rattle.relate_core.proofs.nodes.add_starts.Goals.{in-Some+in_ok-add_near, in_default}
+use Rattle.relate_core.proofs.nodes.add_starts.Goals.{in-Some+in_ok-add_position, in_default}
 
 pub loop-line-preserved : goal.loop-line-preserved
 loop-line-preserved c =
@@ -20,10 +20,10 @@ loop-line-preserved c =
     let is = read_at c.as_slice-line-items.result.now lines k line items c.loop-line-test.true c.line-item.is in
     let read = sym (ap (λ (xs : List Pt). slice_get xs 0) c.as_slice.ensures.items) ∙ sym c.first.ensures.value in
     elim c.match-first.branch [
-      | in-Some+in_ok-add_near w ↦
+      | in-Some+in_ok-add_position w ↦
           subst (λ (t : List Entry). AddsNear c.args.w (IsOfBefore IsAtFirst lines (k + 1)) old t) (sym w.nodes-is)
-          (start_next c.args.w lines k line is old c.loop-line.nodes w.add_near.new.nodes w.at_point.result w.in-Some.start.now
-          (read ∙ ap option_copied w.in-Some.is) w.at_point.ensures.point w.in_ok-add_near.ensures.nodes c.loop-line.invariant)
+          (start_next c.args.w lines k line is old c.loop-line.nodes w.add_position.new.nodes w.in-Some.start.now
+          (read ∙ ap option_copied w.in-Some.is) w.in_ok-add_position.ensures.nodes c.loop-line.invariant)
       | in_default w ↦
           subst (λ (t : List Entry). AddsNear c.args.w (IsOfBefore IsAtFirst lines (k + 1)) old t) (sym w.nodes-is)
           (no_start c.args.w lines k line is (read ∙ ap option_copied w.in_default.is) old c.loop-line.nodes c.loop-line.invariant)

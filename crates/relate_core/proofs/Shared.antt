@@ -1,6 +1,6 @@
--- The common part of two boxes: the greater of the low sides and the lesser of the high ones.
+-- The box that two boxes share: the greater of the low sides and the lesser of the high ones.
 use Rattle.std.proofs.Common.{◌≡◌, Bool, true, false, ℤ, ◌*ℤ◌, ◌≤ℤ◌, sym, subst, arith}
-use Rattle.std.specs.Prelude.{◌↔◌, cond, int_lt}
+use Rattle.std.specs.Prelude.{cond, int_lt}
 use Rattle.std.specs.Int.{int_max, int_min}
 use Rattle.std.proofs.lemmas.Int.{ints, clamps}
 use Rattle.plane_laws.specs.Plane.{Point}
@@ -14,10 +14,10 @@ of_either IsSo true m n h k = h
 of_either IsSo false m n h k = k
 
 -- the box with these sides holds what both hold, and nothing else
-pub common_of_sides : (u v w : Window) → w.low_x ≡ int_max u.low_x v.low_x → w.low_y ≡ int_max u.low_y v.low_y
+pub shared_by_sides : (u v w : Window) → w.low_x ≡ int_max u.low_x v.low_x → w.low_y ≡ int_max u.low_y v.low_y
     → w.high_x ≡ int_min u.high_x v.high_x → w.high_y ≡ int_min u.high_y v.high_y → (p : Point)
-    → (IsInWindow u p × IsInWindow v p) ↔ IsInWindow w p
-common_of_sides u v w lx ly hx hy p = (λ both. held both.0 both.1, λ h. (within_holds in_first p h, within_holds in_second p h))
+    → (IsInWindow u p → IsInWindow v p → IsInWindow w p) × (IsInWindow w p → IsInWindow u p × IsInWindow v p)
+shared_by_sides u v w lx ly hx hy p = (held, λ h. (within_holds in_first p h, within_holds in_second p h))
   where
     held : IsInWindow u p → IsInWindow v p → IsInWindow w p
     held h k = record {
