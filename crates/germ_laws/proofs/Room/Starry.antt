@@ -21,7 +21,7 @@ use Rattle.point_set.specs.Rings.{is_on_edge}
 use Rattle.plane_laws.proofs.Near.Near.{IsNear, near_mix}
 use Rattle.ring_laws.proofs.Room.Edges.{HasRoom, room}
 pub use Rattle.ring_laws.proofs.Germs.Edges.{near_self}
-use Rattle.ring_laws.proofs.Germs.Edges.{shift_self, rise_self, on_true, ends_decide, direction_pointed, is_toward, Decides-is_toward}
+use Rattle.ring_laws.proofs.Germs.Edges.{cone_moved, shift_self, rise_self, on_true, ends_decide, direction_pointed, is_toward, Decides-is_toward}
 use Rattle.ring_laws.proofs.Germs.Areas.{segment_within}
 
 -- ---- two points in one direction: one of them is on the way to the other
@@ -74,18 +74,9 @@ ray_order {v} {d} {p} {q} c k =
 -- ---- a point in a direction isn't the point itself
 -- nor is a point between two directions that aren't opposite
 pub between_apart : {v : Point} {d e : Direction} {p : Point} → ¬ IsInCone v d e v → IsInCone v d e p → ¬ IsSamePoint v p
-between_apart {v} {d} {e} {p} pointed c alike = pointed (record {
-  i = c.i;
-  j = c.j;
-  first = c.first;
-  second = c.second;
-  some = c.some;
-  times = c.times;
-  positive = c.positive;
-  across = ap (λ z. c.times *ℤ z) (shift_self v ∙ sym ((OneSign-zero (shift_same (same_refl v) (same_sym alike))).1 (shift_self v)))
-      ∙ c.across;
-  above = ap (λ z. c.times *ℤ z) (rise_self v ∙ sym ((OneSign-zero (rise_same (same_refl v) (same_sym alike))).1 (rise_self v))) ∙ c.above;
-})
+between_apart {v} {d} {e} {p} pointed c alike = pointed (cone_moved c
+    (ap (λ z. c.times *ℤ z) (shift_self v ∙ sym ((OneSign-zero (shift_same (same_refl v) (same_sym alike))).1 (shift_self v))) ∙ c.across)
+    (ap (λ z. c.times *ℤ z) (rise_self v ∙ sym ((OneSign-zero (rise_same (same_refl v) (same_sym alike))).1 (rise_self v))) ∙ c.above))
 
 pub not_here : {v : Point} {d : Direction} {p : Point} → IsInCone v d d p → ¬ IsSamePoint v p
 not_here {v} {d} c = between_apart (direction_pointed v d) c

@@ -65,7 +65,7 @@ level_across k w n l z rx ry tx ty level e =
     (same (var 0 ⊗ var 4) (var 1 ⊗ (var 3 ⊗ var 5 ⊕ var 2 ⊗ var 7) ⊕ num (pos 0) ⊗ (var 3 ⊗ var 5 ⊕ var 2 ⊗ var 7)) e)
     ⊞ scaled (minus (var 1 ⊗ (var 2 ⊗ var 6))) (vanishing (var 5 ⊗ var 8 ⊖ var 6 ⊗ var 7) level)) refl
 
--- the same of the other coordinate
+-- and of the other coordinate
 level_above : (k w n l z rx ry tx ty : ℤ) → (rx *ℤ ty) -ℤ (ry *ℤ tx) ≡ pos 0
     → k *ℤ z ≡ (w *ℤ ((l *ℤ ry) +ℤ (n *ℤ ty))) +ℤ (pos 0 *ℤ ((l *ℤ ry) +ℤ (n *ℤ ty)))
     → (k *ℤ ((rx *ℤ rx) +ℤ (ry *ℤ ry))) *ℤ z

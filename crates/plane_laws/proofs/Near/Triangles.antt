@@ -7,6 +7,7 @@ use Rattle.whole_algebra.proofs.Signs.{by_sign, <ℤ_weaken, pos_nonzero, pos-*-
 use Rattle.plane_laws.proofs.Turns.Turns.{PolyPoint, point_at, turn_poly, ◌then◌, turn_cycle, turn_swap}
 use Rattle.plane_laws.specs.Plane.{Point, IsMixOfThree, IsInTriangle, IsStrictlyInTriangle, turn, rise, shift}
 use Rattle.plane_laws.specs.Directions.{Direction}
+use Rattle.plane_laws.proofs.Segments.Mixes.{three_cycle}
 use Rattle.plane_laws.proofs.Near.Parted.{Affine, at_point, turn_by, turn_by_is, turn_ends}
 use Rattle.plane_laws.proofs.Near.Near.{IsNear, reach_of, positive_near}
 use Rattle.plane_laws.proofs.Near.Away.{away_point, away_point_is, away_near, far_for}
@@ -79,18 +80,7 @@ pub record HoldsNear (a b c v : Point) : Type 0 where
   pub n : ℕ
   pub held : (q : Point) → IsNear v n q → IsInTriangle a b c q
 
-three_turned : {a b c p : Point} {s t u : ℤ} → IsMixOfThree a b c p s t u → IsMixOfThree b c a p t u s
-three_turned m = record {
-  first = m.second;
-  second = m.third;
-  third = m.first;
-  times = m.times;
-  some = m.some;
-  across = let e = m.across in omega (arith, linear, e);
-  above = let e = m.above in omega (arith, linear, e);
-  mass = let e = m.mass in omega (arith, linear, e);
-}
-
+-- the first two points of a mix change places
 three_swapped : {a b c p : Point} {s t u : ℤ} → IsMixOfThree a b c p s t u → IsMixOfThree b a c p t s u
 three_swapped m = record {
   first = m.second;
@@ -109,9 +99,9 @@ left_holds_near a b c v m hs ht hu h = record {
   n = n;
   held = λ q near.
       weights a b c q h
-      (at_least b c q (positive_near (turn_by b c) v q n (third_positive b c a v (three_turned m) hs
+      (at_least b c q (positive_near (turn_by b c) v q n (third_positive b c a v (three_cycle m) hs
       (omega (arith, linear, h, turn_cycle a b c))) (omega arith) near))
-      (at_least c a q (positive_near (turn_by c a) v q n (third_positive c a b v (three_turned (three_turned m)) ht
+      (at_least c a q (positive_near (turn_by c a) v q n (third_positive c a b v (three_cycle (three_cycle m)) ht
       (omega (arith, linear, h, turn_cycle a b c, turn_cycle b c a))) (omega arith) near))
       (at_least a b q (positive_near (turn_by a b) v q n (third_positive a b c v m hu h) (omega arith) near));
 }

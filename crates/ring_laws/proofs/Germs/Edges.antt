@@ -88,6 +88,21 @@ longer {v} {d} {e} {m} c a more f hm hf across above = record {
         less_by (num (pos 0)) (var 0 ⊗ var 1 ⊕ var 0 ⊗ var 2) (f ∷ i ∷ j ∷ [])
         (λ denied. denied ⊞ positive (var 0) hf ⊠ positive (var 1 ⊕ var 2) h) refl
 
+-- a point to which the steps are those to a point between two directions lies between them
+pub cone_moved : {v : Point} {d e : Direction} {p q : Point} (c : IsInCone v d e p) → c.times *ℤ shift v q ≡ (c.i *ℤ d.x) +ℤ (c.j *ℤ e.x)
+    → c.times *ℤ rise v q ≡ (c.i *ℤ d.y) +ℤ (c.j *ℤ e.y) → IsInCone v d e q
+cone_moved c across above = record {
+  i = c.i;
+  j = c.j;
+  first = c.first;
+  second = c.second;
+  some = c.some;
+  times = c.times;
+  positive = c.positive;
+  across = across;
+  above = above;
+}
+
 -- neither end of the edge lies between the directions
 pub record AreEndsClear (v : Point) (d e : Direction) (a b : Point) : Type 0 where
   pub first : ¬ IsInCone v d e a
@@ -158,17 +173,8 @@ ends_decide v d e a b m pointed on_v on_m clear c = by_sign turned (λ h. clear.
     at_v z =
         let zero_x = none_at z (shift v a) (shift v b) (shift v m) ((c.i *ℤ d.x) +ℤ (c.j *ℤ e.x)) still_x (shift_mix v on_m.mix) c.across in
         let zero_y = none_at z (rise v a) (rise v b) (rise v m) ((c.i *ℤ d.y) +ℤ (c.j *ℤ e.y)) still_y (rise_mix v on_m.mix) c.above in
-        record {
-          i = c.i;
-          j = c.j;
-          first = c.first;
-          second = c.second;
-          some = c.some;
-          times = c.times;
-          positive = c.positive;
-          across = ap (λ y. c.times *ℤ y) (shift_self v) ∙ *ℤ-zero c.times ∙ sym zero_x;
-          above = ap (λ y. c.times *ℤ y) (rise_self v) ∙ *ℤ-zero c.times ∙ sym zero_y;
-        }
+        cone_moved c (ap (λ y. c.times *ℤ y) (shift_self v) ∙ *ℤ-zero c.times ∙ sym zero_x)
+        (ap (λ y. c.times *ℤ y) (rise_self v) ∙ *ℤ-zero c.times ∙ sym zero_y)
 
 -- a single direction has no way back
 pub direction_pointed : (v : Point) (d : Direction) → ¬ IsInCone v d d v

@@ -59,18 +59,18 @@ settled_off ring closed v off d =
 along_like : {P Q : Point → Type 0} {v : Point} {d : Direction} → ((q : Point) → P q → Q q) → HoldsAlong P v d → HoldsAlong Q v d
 along_like f h = record { from = h.from; holds = λ n far q away. f q (h.holds n far q away) }
 
-along_both : {P Q : Point → Type 0} {v : Point} {d : Direction} → HoldsAlong P v d → HoldsAlong Q v d → HoldsAlong (λ q. P q × Q q) v d
+pub along_both : {P Q : Point → Type 0} {v : Point} {d : Direction} → HoldsAlong P v d → HoldsAlong Q v d → HoldsAlong (λ q. P q × Q q) v d
 along_both h k = record {
   from = h.from + k.from;
   holds = λ n far q away. (h.holds n (omega (arith, far)) q away, k.holds n (omega (arith, far)) q away);
 }
 
 -- some point along it
-record HasPoint (P : Point → Type 0) : Type 0 where
-  q : Point
-  is : P q
+pub record HasPoint (P : Point → Type 0) : Type 0 where
+  pub q : Point
+  pub is : P q
 
-along_some : {P : Point → Type 0} {v : Point} {d : Direction} → HoldsAlong P v d → HasPoint P
+pub along_some : {P : Point → Type 0} {v : Point} {d : Direction} → HoldsAlong P v d → HasPoint P
 along_some {P} {v} {d} h = record
     { q = away_point v d h.from; is = h.holds (suc h.from) (omega arith) (away_point v d h.from) (away_point_is v d h.from) }
 
@@ -120,6 +120,10 @@ area_clean f shaped valid place area is = record {
   within = λ h. valid place hole_outside (record { area = area; area_is = is; is_so = h });
   unlapped = λ h. valid place holes_overlap (record { area = area; area_is = is; is_so = h });
 }
+
+-- what one edge shares with another the other shares with it
+pub share_back : {e f : Seg} → ShareSegment e f → ShareSegment f e
+share_back h = record { a = h.a; b = h.b; apart = h.apart; held = λ p on. let both = h.held p on in (both.1, both.0) }
 
 -- two of its rings have no edges that share a segment
 pub rings_unshared : {area : Area} → ¬ RingsShareSegment area → (k l : ℕ) → k < l → (one other : List Pt) → IsAtPlace (rings_of area) k one
@@ -329,12 +333,12 @@ holes_unlapped : {area : Area} → ¬ HasHolesThatOverlap area → (k l : ℕ) �
     → IsAtPlace area.holes l other → (p : Point) → is_inside p one ≡ true → ¬ (is_inside p other ≡ true)
 holes_unlapped unlapped k l before one other one_is other_is p in_one in_other = unlapped (record {
   i = k;
-  j = l;
-  earlier = before;
   one = one;
-  other = other;
   one_is = one_is;
+  j = l;
+  other = other;
   other_is = other_is;
+  earlier = before;
   p = p;
   in_one = in_one;
   in_other = in_other;

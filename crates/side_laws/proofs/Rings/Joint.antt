@@ -4,7 +4,7 @@ use Rattle.std.specs.Prelude.{slice_get}
 use Rattle.std.proofs.lemmas.Bool.{cases_eq, true≢false}
 use Rattle.std.proofs.Math.Bool.{not-not}
 use Rattle.whole_algebra.proofs.Laws.{linear}
-use Rattle.whole_algebra.proofs.Polynomials.{var, num, ◌⊕◌, ◌⊖◌, ◌⊗◌, minus, identity}
+use Rattle.whole_algebra.proofs.Polynomials.{Poly, var, num, ◌⊕◌, ◌⊖◌, ◌⊗◌, minus, identity}
 use Rattle.whole_algebra.proofs.Certificates.{same, scaled, positive, impossible_by, ◌⊞◌, ◌⊠◌}
 use Rattle.whole_algebra.proofs.Signs.{by_sign}
 use Rattle.plane_laws.proofs.Turns.Turns.{PolyPoint, turn_poly, turn_swap}
@@ -170,38 +170,31 @@ near_start p q apart n some = record {
     ones : (n : ℤ) → pos 1 *ℤ (pos 1 *ℤ n) ≡ ((n -ℤ pos 1) *ℤ pos 1) +ℤ (pos 1 *ℤ pos 1)
     ones n = identity (num (pos 1) ⊗ (num (pos 1) ⊗ var 0)) ((var 0 ⊖ num (pos 1)) ⊗ num (pos 1) ⊕ num (pos 1) ⊗ num (pos 1)) (n ∷ []) refl
 
--- three positions as polynomials
+-- a position as polynomials, and the point near the second of three positions that lies towards one of the others
 abbrev position : ℕ → PolyPoint
 position n = record { x = var n; y = var (suc n); w = num (pos 1) }
 
-abbrev pa : PolyPoint
-pa = position 0
+abbrev near_second : PolyPoint → PolyPoint
+near_second p =
+    let b = position 2 in
+    record { x = b.x ⊗ var 6 ⊕ (p.x ⊖ b.x) ⊗ num (pos 1); y = b.y ⊗ var 6 ⊕ (p.y ⊖ b.y) ⊗ num (pos 1); w = num (pos 1) ⊗ var 6 }
 
-abbrev pb : PolyPoint
-pb = position 2
-
-abbrev pc : PolyPoint
-pc = position 4
-
--- the point near the second that lies towards another
-abbrev beside_b : PolyPoint → PolyPoint
-beside_b p = record {
-  x = pb.x ⊗ var 6 ⊕ (p.x ⊖ pb.x) ⊗ num (pos 1);
-  y = pb.y ⊗ var 6 ⊕ (p.y ⊖ pb.y) ⊗ num (pos 1);
-  w = num (pos 1) ⊗ var 6;
-}
+abbrev turn_of_three : Poly
+turn_of_three = turn_poly (position 0) (position 2) (position 4)
 
 turn_before : (a b c : Pt) (apart : ¬ IsSamePoint (point_of b) (point_of a)) (n : ℕ)
     → edge_turn (seg b c) (away_point (point_of b) (way b a apart) n) ≡ turn (point_of a) (point_of b) (point_of c)
 unfolding edge_turn turn way away_point
 turn_before a b c apart n =
-    identity (turn_poly pb pc (beside_b pa)) (turn_poly pa pb pc) (a.x ∷ a.y ∷ b.x ∷ b.y ∷ c.x ∷ c.y ∷ pos (suc n) ∷ []) refl
+    identity (turn_poly (position 2) (position 4) (near_second (position 0))) turn_of_three
+    (a.x ∷ a.y ∷ b.x ∷ b.y ∷ c.x ∷ c.y ∷ pos (suc n) ∷ []) refl
 
 turn_after : (a b c : Pt) (apart : ¬ IsSamePoint (point_of b) (point_of c)) (n : ℕ)
     → edge_turn (seg a b) (away_point (point_of b) (way b c apart) n) ≡ turn (point_of a) (point_of b) (point_of c)
 unfolding edge_turn turn way away_point
 turn_after a b c apart n =
-    identity (turn_poly pa pb (beside_b pc)) (turn_poly pa pb pc) (a.x ∷ a.y ∷ b.x ∷ b.y ∷ c.x ∷ c.y ∷ pos (suc n) ∷ []) refl
+    identity (turn_poly (position 0) (position 2) (near_second (position 4))) turn_of_three
+    (a.x ∷ a.y ∷ b.x ∷ b.y ∷ c.x ∷ c.y ∷ pos (suc n) ∷ []) refl
 
 -- ---- two neighbours on one line go on the same way
 ahead : Pt → Pt → Pt → ℤ
@@ -210,7 +203,7 @@ ahead a b c = ((c.x -ℤ b.x) *ℤ (b.x -ℤ a.x)) +ℤ ((c.y -ℤ b.y) *ℤ (b.
 turn_cross : (a b c : Pt) → turn (point_of a) (point_of b) (point_of c) ≡ ((b.x -ℤ a.x) *ℤ (c.y -ℤ b.y)) -ℤ ((b.y -ℤ a.y) *ℤ (c.x -ℤ b.x))
 unfolding turn
 turn_cross a b c =
-    identity (turn_poly pa pb pc) ((pb.x ⊖ pa.x) ⊗ (pc.y ⊖ pb.y) ⊖ (pb.y ⊖ pa.y) ⊗ (pc.x ⊖ pb.x))
+    identity turn_of_three ((var 2 ⊖ var 0) ⊗ (var 5 ⊖ var 3) ⊖ (var 3 ⊖ var 1) ⊗ (var 4 ⊖ var 2))
     (a.x ∷ a.y ∷ b.x ∷ b.y ∷ c.x ∷ c.y ∷ []) refl
 
 no_turn_and_square {ℓ} : {P : Type ℓ} (u v x y : ℤ) → pos 0 <ℤ ((u *ℤ u) +ℤ (v *ℤ v)) → pos 0 <ℤ ((x *ℤ x) +ℤ (y *ℤ y))
@@ -255,18 +248,19 @@ none_ahead {P = P} a b c apart apart_f line none =
     no_turn_and_square {P = P} (b.x -ℤ a.x) (b.y -ℤ a.y) (c.x -ℤ b.x) (c.y -ℤ b.y) (moved_square a b apart) (moved_square b c apart_f)
     (sym (turn_cross a b c) ∙ line) none
 
+abbrev ahead_poly : Poly
+ahead_poly = (var 4 ⊖ var 2) ⊗ (var 2 ⊖ var 0) ⊕ (var 5 ⊖ var 3) ⊗ (var 3 ⊖ var 1)
+
 left_slope_ahead : (a b c : Pt) (apart : ¬ IsSamePoint (point_of a) (point_of b)) → slope (seg b c) (left_way (seg a b) apart) ≡ ahead a b c
 unfolding left_way ahead
 left_slope_ahead a b c apart =
-    identity ((var 4 ⊖ var 2) ⊗ (var 2 ⊖ var 0) ⊖ (var 5 ⊖ var 3) ⊗ minus (var 3 ⊖ var 1))
-    ((var 4 ⊖ var 2) ⊗ (var 2 ⊖ var 0) ⊕ (var 5 ⊖ var 3) ⊗ (var 3 ⊖ var 1))
+    identity ((var 4 ⊖ var 2) ⊗ (var 2 ⊖ var 0) ⊖ (var 5 ⊖ var 3) ⊗ minus (var 3 ⊖ var 1)) ahead_poly
     (a.x ∷ a.y ∷ b.x ∷ b.y ∷ c.x ∷ c.y ∷ []) refl
 
 left_slope_back : (a b c : Pt) (apart : ¬ IsSamePoint (point_of b) (point_of c)) → slope (seg a b) (left_way (seg b c) apart) ≡ ahead a b c
 unfolding left_way ahead
 left_slope_back a b c apart =
-    identity ((var 2 ⊖ var 0) ⊗ (var 4 ⊖ var 2) ⊖ (var 3 ⊖ var 1) ⊗ minus (var 5 ⊖ var 3))
-    ((var 4 ⊖ var 2) ⊗ (var 2 ⊖ var 0) ⊕ (var 5 ⊖ var 3) ⊗ (var 3 ⊖ var 1))
+    identity ((var 2 ⊖ var 0) ⊗ (var 4 ⊖ var 2) ⊖ (var 3 ⊖ var 1) ⊗ minus (var 5 ⊖ var 3)) ahead_poly
     (a.x ∷ a.y ∷ b.x ∷ b.y ∷ c.x ∷ c.y ∷ []) refl
 
 -- along one direction a set can't hold near v at two values
