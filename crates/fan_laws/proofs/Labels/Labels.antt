@@ -50,6 +50,14 @@ pair_of_parts a b rule v d pair h k = record {
   holds = λ n far q away. record { in_a = h.holds n (omega (arith, far)) q away; in_b = k.holds n (omega (arith, far)) q away };
 }
 
+-- three things that each hold along a direction hold together
+along_all : {P Q R : Point → Type 0} {v : Point} {d : Direction} → HoldsAlong P v d → HoldsAlong Q v d → HoldsAlong R v d
+    → HoldsAlong (λ q. P q × Q q × R q) v d
+along_all h k l = record {
+  from = (h.from + k.from) + l.from;
+  holds = λ n far q away. (h.holds n (omega (arith, far)) q away, k.holds n (omega (arith, far)) q away, l.holds n (omega (arith, far)) q away);
+}
+
 -- ---- parts of near points
 module _ (f : Figure) (rule : Rule) (v : Point) (d : Direction) where
   -- the near points lie in a part of the figure
@@ -73,17 +81,13 @@ module _ (f : Figure) (rule : Rule) (v : Point) (d : Direction) where
   -- on a line where no line ends is interior
   line_part : HoldsAlong (λ q. is_covered f q ≡ false) v d → HoldsAlong (λ q. is_on_line f q ≡ true) v d → IsPart Interior
   line_part h k =
-      let ends = ends_off f v d in
+      let all = along_all h k (ends_off f v d) in
       record {
-        from = (h.from + k.from) + ends.from;
+        from = all.from;
         holds = λ n far q away.
-            record {
+            let at = all.holds n far q away in record {
               decided_by = kind.LineInterior;
-              decides = (
-                h.holds n (omega (arith, far)) q away,
-                k.holds n (omega (arith, far)) q away,
-                ap (is_boundary_count rule) (ends.holds n (omega (arith, far)) q away) ∙ no_rule_of_none rule,
-              );
+              decides = (at.0, at.1, ap (is_boundary_count rule) at.2 ∙ no_rule_of_none rule);
               gives = refl;
             };
       }
@@ -91,19 +95,10 @@ module _ (f : Figure) (rule : Rule) (v : Point) (d : Direction) where
   -- and off areas, lines and points is exterior
   empty_part : HoldsAlong (λ q. is_covered f q ≡ false) v d → HoldsAlong (λ q. is_on_line f q ≡ false) v d → IsPart Exterior
   empty_part h k =
-      let points = points_off f v d in
+      let all = along_all h k (points_off f v d) in
       record {
-        from = (h.from + k.from) + points.from;
-        holds = λ n far q away.
-            record {
-              decided_by = kind.Exterior;
-              decides = (
-                h.holds n (omega (arith, far)) q away,
-                k.holds n (omega (arith, far)) q away,
-                points.holds n (omega (arith, far)) q away,
-              );
-              gives = refl;
-            };
+        from = all.from;
+        holds = λ n far q away. record { decided_by = kind.Exterior; decides = all.holds n far q away; gives = refl };
       }
 
 -- ---- the kind of the node

@@ -1,9 +1,9 @@
 -- Near a node there is no other position of a line's end, a still line or a point; and lines are there exactly along the rays on which
 -- a section of a line runs.
-use Rattle.std.proofs.Common.{◌≡◌, ◌⊎◌, inl, inr, ℕ, zero, suc, ◌+◌, ◌<◌, Bool, true, false}
-use Rattle.std.proofs.Common.{List, [], ◌∷◌, refl, sym, subst, arith}
+use Rattle.std.proofs.Common.{◌≡◌, ◌⊎◌, inl, inr, ℕ, suc, ◌+◌, ◌<◌, Bool, true, false}
+use Rattle.std.proofs.Common.{List, [], ◌∷◌, refl, sym, arith}
 use Rattle.std.specs.List.{Any, Contains}
-use Rattle.std.proofs.lemmas.Bool.{or_left, or_right, or_from}
+use Rattle.std.proofs.lemmas.Bool.{or_from}
 use Rattle.std.proofs.lemmas.Option.{slice_get_within}
 use Rattle.im_matrix.specs.declared.Which.{Which}
 use Rattle.plane_laws.proofs.Segments.On.{Decides-is_on_segment}
@@ -29,7 +29,6 @@ use Rattle.point_set.specs.Sectors.{IsInSector}
 use Rattle.point_set.specs.Validity.{IsAtPlace, IsOnEdge}
 use Rattle.ring_laws.proofs.Germs.Areas.{edge_along, clear_from}
 use Rattle.ring_laws.proofs.Germs.Edges.{on_true, joined_between, direction_pointed, Decides-is_toward}
-use Rattle.figure_laws.proofs.Lists.Places.{some_same}
 use Rattle.ring_laws.proofs.Parity.Ring.{misses_start}
 use Rattle.germ_laws.proofs.Sectors.Rays.{off_sector}
 use Rattle.fan_order.specs.declared.section.Section.{Section}
@@ -45,6 +44,7 @@ use Rattle.germ_laws.proofs.Rays.Neighbours.{between_rays}
 use Rattle.kind_laws.proofs.Cover.Inside.{on_some_edge}
 use Rattle.figure_laws.proofs.Lists.Search.{HasSome, search_for}
 use Rattle.fan_order.proofs.Laws.{same_which, same_direction}
+use Rattle.figure_laws.proofs.Edges.Lines.{on_some_line}
 
 -- ---- lines along a direction
 -- no edge of the way runs from v along d
@@ -67,16 +67,6 @@ lines_off v d (line ∷ lines) clear =
           or_from (is_on_edges q (edges_of line)) (is_on_lines q lines) (misses_start (joined.free n n near near q q away away))
           (rest.holds n (omega (arith, far)) q away);
     }
-
--- a point of one of the lines is on the lines
-on_some_line : (lines : List (List Pt)) (k : ℕ) (way : List Pt) (q : Point) → IsAtPlace lines k way → is_on_edges q (edges_of way) ≡ true
-    → is_on_lines q lines ≡ true
-on_some_line [] k way q is on = cc
-on_some_line (line ∷ lines) zero way q is on =
-    or_left (is_on_edges q (edges_of line)) (is_on_lines q lines)
-    (subst (λ (z : List Pt). is_on_edges q (edges_of z) ≡ true) (sym (some_same is)) on)
-on_some_line (line ∷ lines) (suc k) way q is on =
-    or_right (is_on_edges q (edges_of line)) (is_on_lines q lines) (on_some_line lines k way q is on)
 
 -- where an edge of a line runs from v along d, the near points are on it
 lines_on : (f : Figure) (v : Point) (d : Direction) (k : ℕ) (e : Seg) → IsLineEdge f.lines k e → IsOnEdge e v → (forward : Bool)

@@ -8,6 +8,7 @@ use Rattle.whole_algebra.proofs.Certificates.{same, same_from, at_most_by, natur
 use Rattle.whole_algebra.proofs.Signs.{cancel_≡, scale_≤ℤ_right, ≤ℤ_trans, <ℤ_weaken, nonneg-*-nonneg, nonneg-+-pos}
 use Rattle.plane_laws.proofs.Points.Same.{Decides-is_same_point, same_trans, same_sym}
 use Rattle.plane_laws.specs.Plane.{Point, IsSamePoint, IsOnSegment, turn}
+use Rattle.plane_laws.proofs.Segments.Mixes.{mix_of_sums}
 use Rattle.plane_exact.specs.Places.{point_of}
 use Rattle.plane_exact.specs.declared.point.Pt.{Pt}
 use Rattle.figure_laws.proofs.Sets.Dimensions.{segment_of_triangle}
@@ -80,15 +81,7 @@ pub step_on_segment : (a b : Point) (n : ℕ) → IsOnSegment a b (step_of a b n
 step_on_segment a b n = record {
   s = pos n;
   t = pos 1;
-  mix = record {
-    first = omega (arith, linear);
-    second = omega (arith, linear);
-    times = pos 1;
-    some = omega (arith, linear);
-    across = once (pos n) a.x b.x;
-    above = once (pos n) a.y b.y;
-    mass = once (pos n) a.w b.w;
-  };
+  mix = mix_of_sums (omega (arith, linear)) (omega (arith, linear)) (once (pos n) a.x b.x) (once (pos n) a.y b.y) (once (pos n) a.w b.w);
 }
 
 steps_apart : (n m u v w z : ℤ) → n <ℤ m → (n *ℤ u +ℤ v) *ℤ (m *ℤ w +ℤ z) ≡ (m *ℤ u +ℤ v) *ℤ (n *ℤ w +ℤ z) → u *ℤ z ≡ v *ℤ w

@@ -1,5 +1,5 @@
 -- Every direction points along one of the rays in order, or lies strictly within one of their sectors.
-use Rattle.std.proofs.Common.{◌≡◌, inl, inr, ℕ, zero, suc, ◌+◌, ◌%◌, ◌<◌, ℤ, pos, negsuc, ◌-ℤ◌, ◌*ℤ◌, neg_ℤ, ◌<ℤ◌, Bool, true, false, Less, List, [], ◌∷◌, length, ap, refl, sym, ◌∙◌, subst, arith}
+use Rattle.std.proofs.Common.{◌≡◌, inl, inr, ℕ, zero, suc, ◌+◌, ◌%◌, ◌<◌, ℤ, pos, negsuc, ◌*ℤ◌, neg_ℤ, ◌<ℤ◌, Bool, true, false, Less, List, [], ◌∷◌, length, ap, refl, sym, ◌∙◌, subst, arith}
 use Rattle.std.specs.List.{AllPairs}
 use Rattle.std.proofs.Math.Nat.{mod_self, mod-eq_of_lt}
 use Rattle.std.proofs.lemmas.Option.{slice_get_within, get_or_from_slice_get}
@@ -9,6 +9,7 @@ use Rattle.whole_algebra.proofs.Certificates.{positive, vanishing, same, less, l
 use Rattle.whole_algebra.proofs.Signs.{by_sign, <ℤ_apart}
 use Rattle.plane_laws.proofs.Directions.Angles.{no_bend, same_way_from}
 use Rattle.germ_laws.proofs.Rays.InTurn.{IsUp, up_from, down_from, AreInTurn, around_a, around_b, around_c, turn_on, IsAhead, ahead_from, in_turn}
+use Rattle.germ_laws.proofs.Sectors.Rays.{opposed, turned_way, way_to_left}
 use Rattle.plane_laws.specs.Directions.{Direction, past_half, bend_of, PointSameWay, IsStrictlyWithin}
 use Rattle.plane_exact.specs.Orders.{direction_of, compare_angles}
 use Rattle.plane_exact.specs.declared.dir.Dir.{Dir}
@@ -69,11 +70,6 @@ order_of d e = go (past_half d.x d.y) (past_half e.x e.y) refl refl
     go true true h k = level (h ∙ sym k)
 
 -- ---- in turn is strictly within
-opposed : (u w : Direction) → pos 0 <ℤ bend_of u w → pos 0 <ℤ bend_of w u → ⊥
-unfolding bend_of
-opposed u w h k = impossible_by (u.x ∷ u.y ∷ w.x ∷ w.y ∷ [])
-    (positive (var 0 ⊗ var 3 ⊖ var 1 ⊗ var 2) h ⊞ positive (var 2 ⊗ var 1 ⊖ var 3 ⊗ var 0) k) refl
-
 in_turn_within : (r d s : Direction) → AreInTurn r d s → ¬ PointSameWay r d → IsStrictlyWithin r s d
 in_turn_within r d s (around_a h k) n = record
     { left = λ l. absurd (opposed r s l h); right = λ _. inl k; opposite = λ _ _. k; same = λ _. n }
@@ -120,23 +116,8 @@ find (r ∷ rays) d = by_first (order_of (direction_of r) d) (find rays d)
     by_first (is_same q) k = on 0 r refl q
     by_first (is_after h) k = first (only_first h)
 
-way_to_left : {u w : Direction} (s : Direction) → PointSameWay u w → pos 0 <ℤ bend_of s w → pos 0 <ℤ bend_of s u
-unfolding bend_of
-way_to_left {u} {w} s q h = go u.x u.y w.x w.y s.x s.y q.m q.n q.some q.other q.across q.above h
-  where
-    go : (ux uy wx wy sx sy m n : ℤ) → pos 0 <ℤ m → pos 0 <ℤ n → m *ℤ ux ≡ n *ℤ wx → m *ℤ uy ≡ n *ℤ wy
-        → pos 0 <ℤ ((sx *ℤ wy) -ℤ (sy *ℤ wx)) → pos 0 <ℤ ((sx *ℤ uy) -ℤ (sy *ℤ ux))
-    go ux uy wx wy sx sy m n hm hn across above h =
-        less_by (num (pos 0)) (var 4 ⊗ var 1 ⊖ var 5 ⊗ var 0) (ux ∷ uy ∷ wx ∷ wy ∷ sx ∷ sy ∷ m ∷ n ∷ [])
-        (λ denied. denied ⊠ positive (var 6) hm ⊞ positive (var 7) hn ⊠ positive (var 4 ⊗ var 3 ⊖ var 5 ⊗ var 2) h
-        ⊞ scaled (minus (var 5)) (same (var 6 ⊗ var 0) (var 7 ⊗ var 2) across)
-        ⊞ scaled (var 4) (same (var 6 ⊗ var 1) (var 7 ⊗ var 3) above)) refl
-
 itself : (d : Direction) → PointSameWay d d
 itself d = record { m = pos 1; n = pos 1; some = omega (arith, linear); other = omega (arith, linear); across = refl; above = refl }
-
-turned_way : {u w : Direction} → PointSameWay u w → PointSameWay w u
-turned_way h = record { m = h.n; n = h.m; some = h.other; other = h.some; across = sym h.across; above = sym h.above }
 
 -- ahead, and again ahead, is another way
 in_turn_apart : (a b c : Direction) → IsAhead a b → IsAhead b c → ¬ PointSameWay a c

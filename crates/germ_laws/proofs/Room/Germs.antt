@@ -1,9 +1,9 @@
 -- The location of a near point is the germ in its direction.
-use Rattle.std.proofs.Common.{◌≡◌, ℕ, ◌+◌, ◌≤◌, ◌<◌, ℤ, pos, ◌+ℤ◌, ◌*ℤ◌, ◌<ℤ◌, ◌≤ℤ◌, Bool, true, false, ◌||◌, List, [], ◌∷◌, ap, refl, sym, ◌∙◌, arith}
+use Rattle.std.proofs.Common.{◌≡◌, ℕ, ◌+◌, ◌≤◌, ◌<◌, ℤ, pos, ◌+ℤ◌, ◌*ℤ◌, ◌<ℤ◌, Bool, true, false, ◌||◌, List, [], ◌∷◌, ap, refl, sym, ◌∙◌, arith}
 use Rattle.std.specs.List.{list_any}
 use Rattle.im_matrix.specs.declared.Loc.TheVariants.{Boundary}
-use Rattle.whole_algebra.proofs.Polynomials.{var, num, ◌⊕◌, ◌⊗◌}
-use Rattle.whole_algebra.proofs.Certificates.{natural, positive, same, same_from, less_by, whole, scaled, ◌⊞◌, ◌⊠◌}
+use Rattle.whole_algebra.proofs.Polynomials.{var, ◌⊕◌, ◌⊗◌}
+use Rattle.whole_algebra.proofs.Certificates.{positive, same, same_from, scaled, ◌⊞◌}
 use Rattle.whole_algebra.proofs.Signs.{<ℤ_weaken, pos-*-pos, nonneg-*-nonneg}
 use Rattle.plane_laws.proofs.Segments.Mixes.{start_on_segment}
 use Rattle.plane_laws.specs.Plane.{Point, IsOnSegment, rise, shift}
@@ -16,7 +16,7 @@ use Rattle.point_set.specs.Location.{location, location_by, edges_of_rings, ring
 use Rattle.point_set.specs.Rings.{is_on_edge, is_on_edges, is_inside}
 use Rattle.point_set.specs.Shape.{IsAreaShaped}
 use Rattle.plane_laws.proofs.Near.Near.{IsNear, near_mix, shift_mix, rise_mix}
-use Rattle.plane_laws.proofs.Near.Away.{away_near, far_for, between_in_cone, some_weight}
+use Rattle.plane_laws.proofs.Near.Away.{cone_some, away_near, far_for, between_in_cone, some_weight}
 use Rattle.ring_laws.proofs.Germs.Areas.{location_stays}
 use Rattle.germ_laws.proofs.Room.Starry.{starry_beside}
 
@@ -53,14 +53,6 @@ alike_on_edges p q [] h = refl
 alike_on_edges p q (e ∷ edges) h = λ i. h.0 i || alike_on_edges p q edges h.1 i
 
 -- ---- what is between two points in a direction is in that direction
-cone_some : (s t n l u w : ℤ) → pos 0 ≤ℤ s → pos 0 ≤ℤ t → pos 0 <ℤ (s +ℤ t) → pos 0 <ℤ n → pos 0 <ℤ l → pos 0 <ℤ u → pos 0 <ℤ w
-    → pos 0 <ℤ (((s *ℤ l) *ℤ u) +ℤ ((t *ℤ n) *ℤ w))
-cone_some s t n l u w hs ht h hn hl hu hw =
-    less_by (num (pos 0)) ((var 0 ⊗ var 3) ⊗ var 4 ⊕ (var 1 ⊗ var 2) ⊗ var 5) (s ∷ t ∷ n ∷ l ∷ u ∷ w ∷ [])
-    (λ denied. denied ⊞ natural (var 0) hs ⊠ whole (positive (var 3 ⊗ var 4) (pos-*-pos hl hu))
-    ⊞ natural (var 1) ht ⊠ whole (positive (var 2 ⊗ var 5) (pos-*-pos hn hw))
-    ⊞ positive (var 0 ⊕ var 1) h) refl
-
 cone_step : (k s t ip jp tp iq jq tq x z p q : ℤ) → k *ℤ z ≡ (s *ℤ p) +ℤ (t *ℤ q) → tp *ℤ p ≡ (ip *ℤ x) +ℤ (jp *ℤ x)
     → tq *ℤ q ≡ (iq *ℤ x) +ℤ (jq *ℤ x) → (k *ℤ (tp *ℤ tq)) *ℤ z ≡ (((s *ℤ tq) *ℤ (ip +ℤ jp)) *ℤ x) +ℤ (((t *ℤ tp) *ℤ (iq +ℤ jq)) *ℤ x)
 cone_step k s t ip jp tp iq jq tq x z p q e f g =

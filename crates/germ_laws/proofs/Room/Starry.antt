@@ -3,7 +3,6 @@ use Rattle.std.proofs.Common.{◌≡◌, ◌⊎◌, inl, inr, ℕ, ◌≤◌, �
 use Rattle.std.proofs.lemmas.Bool.{true≢false}
 use Rattle.std.proofs.lemmas.Bool.Decides.{not_from_Decides}
 use Rattle.std.proofs.lemmas.Int.{by_lt_z}
-use lib.IntN.{*ℤ-zero}
 use Rattle.whole_algebra.proofs.Laws.{linear}
 use Rattle.whole_algebra.proofs.Polynomials.{var, num, ◌⊕◌, ◌⊖◌, ◌⊗◌, minus}
 use Rattle.whole_algebra.proofs.Certificates.{same, same_from, scaled, ◌⊞◌}
@@ -21,20 +20,9 @@ use Rattle.plane_laws.specs.Along.{IsInCone}
 use Rattle.point_set.specs.Rings.{is_on_edge}
 use Rattle.plane_laws.proofs.Near.Near.{IsNear, near_mix}
 use Rattle.ring_laws.proofs.Room.Edges.{HasRoom, room}
-use Rattle.ring_laws.proofs.Germs.Edges.{shift_self, rise_self, on_true, ends_decide, direction_pointed, is_toward, Decides-is_toward}
+pub use Rattle.ring_laws.proofs.Germs.Edges.{near_self}
+use Rattle.ring_laws.proofs.Germs.Edges.{cone_moved, shift_self, rise_self, on_true, ends_decide, direction_pointed, is_toward, Decides-is_toward}
 use Rattle.ring_laws.proofs.Germs.Areas.{segment_within}
-
-pub near_self : (v : Point) (n : ℕ) → IsNear v n v
-near_self v n =
-    let still_x : pos n *ℤ shift v v ≡ pos 0 = ap (λ z. pos n *ℤ z) (shift_self v) ∙ *ℤ-zero (pos n) in
-    let still_y : pos n *ℤ rise v v ≡ pos 0 = ap (λ z. pos n *ℤ z) (rise_self v) ∙ *ℤ-zero (pos n) in
-    let heavy : pos 0 <ℤ (v.w *ℤ v.w) = pos-*-pos v.heavy v.heavy in
-    record {
-      left = omega (arith, linear, still_x, heavy);
-      right = omega (arith, linear, still_x, heavy);
-      bottom = omega (arith, linear, still_y, heavy);
-      top = omega (arith, linear, still_y, heavy);
-    }
 
 -- ---- two points in one direction: one of them is on the way to the other
 step_on : (cp tp cq tq v vw p pw q qw : ℤ) → cq *ℤ (tp *ℤ ((p *ℤ vw) -ℤ (v *ℤ pw))) ≡ cp *ℤ (tq *ℤ ((q *ℤ vw) -ℤ (v *ℤ qw)))
@@ -86,18 +74,9 @@ ray_order {v} {d} {p} {q} c k =
 -- ---- a point in a direction isn't the point itself
 -- nor is a point between two directions that aren't opposite
 pub between_apart : {v : Point} {d e : Direction} {p : Point} → ¬ IsInCone v d e v → IsInCone v d e p → ¬ IsSamePoint v p
-between_apart {v} {d} {e} {p} pointed c alike = pointed (record {
-  i = c.i;
-  j = c.j;
-  first = c.first;
-  second = c.second;
-  some = c.some;
-  times = c.times;
-  positive = c.positive;
-  across = ap (λ z. c.times *ℤ z) (shift_self v ∙ sym ((OneSign-zero (shift_same (same_refl v) (same_sym alike))).1 (shift_self v)))
-      ∙ c.across;
-  above = ap (λ z. c.times *ℤ z) (rise_self v ∙ sym ((OneSign-zero (rise_same (same_refl v) (same_sym alike))).1 (rise_self v))) ∙ c.above;
-})
+between_apart {v} {d} {e} {p} pointed c alike = pointed (cone_moved c
+    (ap (λ z. c.times *ℤ z) (shift_self v ∙ sym ((OneSign-zero (shift_same (same_refl v) (same_sym alike))).1 (shift_self v))) ∙ c.across)
+    (ap (λ z. c.times *ℤ z) (rise_self v ∙ sym ((OneSign-zero (rise_same (same_refl v) (same_sym alike))).1 (rise_self v))) ∙ c.above))
 
 pub not_here : {v : Point} {d : Direction} {p : Point} → IsInCone v d d p → ¬ IsSamePoint v p
 not_here {v} {d} c = between_apart (direction_pointed v d) c

@@ -1,5 +1,5 @@
 -- The germ of an area in a sector: it is the same along all directions that lie strictly within one in which no edge runs.
-use Rattle.std.proofs.Common.{◌≡◌, ◌⊎◌, inl, inr, ℤ, pos, ◌+ℤ◌, ◌-ℤ◌, ◌*ℤ◌, neg_ℤ, ◌<ℤ◌, ◌≤ℤ◌, false, List, [], ◌∷◌, ap, refl, sym, ◌∙◌, arith}
+use Rattle.std.proofs.Common.{◌≡◌, ◌⊎◌, inl, inr, ℤ, pos, ◌+ℤ◌, ◌-ℤ◌, ◌*ℤ◌, neg_ℤ, ◌<ℤ◌, ◌≤ℤ◌, false, List, [], ◌∷◌, ap, refl, sym, ◌∙◌, subst, arith}
 use Rattle.std.proofs.lemmas.Bool.{or_parts, true≢false}
 use lib.IntN.{*ℤ-zero, zero-*ℤ}
 use Rattle.im_matrix.specs.declared.Loc.{Loc}
@@ -103,16 +103,16 @@ left_value rx ry dx dy ex ey i j x y hi hj h across above k l =
     ⊞ scaled (var 0) (same (var 9) (var 6 ⊗ var 3 ⊕ var 7 ⊗ var 5) above)
     ⊞ scaled (minus (var 1)) (same (var 8) (var 6 ⊗ var 2 ⊕ var 7 ⊗ var 4) across)) refl
 
+-- what has s to the left is to the left of the opposite of s
+pub over_back : (x y sx sy : ℤ) → (x *ℤ sy) -ℤ (y *ℤ sx) ≡ (neg_ℤ sx *ℤ y) -ℤ (neg_ℤ sy *ℤ x)
+over_back x y sx sy = identity (var 0 ⊗ var 3 ⊖ var 1 ⊗ var 2) (minus (var 2) ⊗ var 1 ⊖ minus (var 3) ⊗ var 0) (x ∷ y ∷ sx ∷ sy ∷ []) refl
+
 right_value : (sx sy dx dy ex ey i j x y : ℤ) → pos 0 ≤ℤ i → pos 0 ≤ℤ j → pos 0 <ℤ (i +ℤ j) → x ≡ (i *ℤ dx) +ℤ (j *ℤ ex)
     → y ≡ (i *ℤ dy) +ℤ (j *ℤ ey) → pos 0 <ℤ ((dx *ℤ sy) -ℤ (dy *ℤ sx)) → pos 0 <ℤ ((ex *ℤ sy) -ℤ (ey *ℤ sx))
     → pos 0 <ℤ ((x *ℤ sy) -ℤ (y *ℤ sx))
 right_value sx sy dx dy ex ey i j x y hi hj h across above k l =
-    less_by (num (pos 0)) (var 8 ⊗ var 1 ⊖ var 9 ⊗ var 0) (sx ∷ sy ∷ dx ∷ dy ∷ ex ∷ ey ∷ i ∷ j ∷ x ∷ y ∷ [])
-    (λ denied. denied ⊞ natural (var 6) hi ⊠ whole (positive (var 2 ⊗ var 1 ⊖ var 3 ⊗ var 0) k)
-    ⊞ natural (var 7) hj ⊠ whole (positive (var 4 ⊗ var 1 ⊖ var 5 ⊗ var 0) l)
-    ⊞ positive (var 6 ⊕ var 7) h
-    ⊞ scaled (minus (var 0)) (same (var 9) (var 6 ⊗ var 3 ⊕ var 7 ⊗ var 5) above)
-    ⊞ scaled (var 1) (same (var 8) (var 6 ⊗ var 2 ⊕ var 7 ⊗ var 4) across)) refl
+    subst (λ z. pos 0 <ℤ z) (sym (over_back x y sx sy)) (left_value (neg_ℤ sx) (neg_ℤ sy) dx dy ex ey i j x y hi hj h across above
+    (subst (λ z. pos 0 <ℤ z) (over_back dx dy sx sy) k) (subst (λ z. pos 0 <ℤ z) (over_back ex ey sx sy) l))
 
 nothing_left : (a b : ℤ) → ¬ (pos 0 <ℤ ((a *ℤ pos 0) -ℤ (b *ℤ pos 0)))
 nothing_left a b h = impossible_by (a ∷ b ∷ []) (positive (var 0 ⊗ num (pos 0) ⊖ var 1 ⊗ num (pos 0)) h) refl

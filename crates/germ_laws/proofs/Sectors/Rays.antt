@@ -1,5 +1,5 @@
 -- The sectors between neighbouring rays: no ray lies strictly within one, so the germ of an area is the same along all its directions.
-use Rattle.std.proofs.Common.{◌≡◌, ◌⊎◌, inl, inr, ℕ, ◌+◌, ◌%◌, ◌<◌, ℤ, pos, ◌-ℤ◌, ◌*ℤ◌, ◌<ℤ◌, ◌≤◌, Less, List, [], ◌∷◌, length, get_or, ap, refl, sym, ◌∙◌, subst, arith}
+use Rattle.std.proofs.Common.{◌≡◌, ◌⊎◌, inl, inr, ℕ, ◌+◌, ◌%◌, ◌<◌, ℤ, pos, ◌-ℤ◌, ◌*ℤ◌, neg_ℤ, ◌<ℤ◌, ◌≤◌, Less, List, [], ◌∷◌, length, get_or, ap, refl, sym, ◌∙◌, subst, arith}
 use Rattle.std.specs.List.{AllPairs, Any}
 use Rattle.std.proofs.Math.Nat.{mod_self, mod-eq_of_lt}
 use Rattle.std.proofs.lemmas.Bool.{cases_lt, cases_order, cases_eq}
@@ -23,10 +23,10 @@ use Rattle.point_set.specs.Shape.{IsAreaShaped}
 use Rattle.point_set.specs.Validity.{IsAtPlace}
 use Rattle.ring_laws.proofs.Germs.Areas.{clear_from}
 use Rattle.ring_laws.proofs.Germs.Edges.{AreClear}
-use Rattle.germ_laws.proofs.Sectors.Germ.{ArePointed, toward, toward_is, same_in_sector, same_where_clear}
+use Rattle.germ_laws.proofs.Sectors.Germ.{over_back, ArePointed, toward, toward_is, same_in_sector, same_where_clear}
 
 -- ---- directions that point the same way
-opposed : (u w : Direction) → pos 0 <ℤ bend_of u w → pos 0 <ℤ bend_of w u → ⊥
+pub opposed : (u w : Direction) → pos 0 <ℤ bend_of u w → pos 0 <ℤ bend_of w u → ⊥
 unfolding bend_of
 opposed u w h k = impossible_by (u.x ∷ u.y ∷ w.x ∷ w.y ∷ [])
     (positive (var 0 ⊗ var 3 ⊖ var 1 ⊗ var 2) h ⊞ positive (var 2 ⊗ var 1 ⊖ var 3 ⊗ var 0) k) refl
@@ -34,30 +34,25 @@ opposed u w h k = impossible_by (u.x ∷ u.y ∷ w.x ∷ w.y ∷ [])
 pub turned_way : {u w : Direction} → PointSameWay u w → PointSameWay w u
 turned_way h = record { m = h.n; n = h.m; some = h.other; other = h.some; across = sym h.across; above = sym h.above }
 
--- what is to the left of a direction is to the left of each that points the same way
+way_of_numbers : (x y : ℤ) {u w : Direction} → PointSameWay u w → pos 0 <ℤ ((x *ℤ w.y) -ℤ (y *ℤ w.x))
+    → pos 0 <ℤ ((x *ℤ u.y) -ℤ (y *ℤ u.x))
+way_of_numbers x y {u} {w} q h =
+    less_by (num (pos 0)) (var 4 ⊗ var 1 ⊖ var 5 ⊗ var 0) (u.x ∷ u.y ∷ w.x ∷ w.y ∷ x ∷ y ∷ q.m ∷ q.n ∷ [])
+    (λ denied. denied ⊠ positive (var 6) q.some ⊞ positive (var 7) q.other ⊠ positive (var 4 ⊗ var 3 ⊖ var 5 ⊗ var 2) h
+    ⊞ scaled (minus (var 5)) (same (var 6 ⊗ var 0) (var 7 ⊗ var 2) q.across)
+    ⊞ scaled (var 4) (same (var 6 ⊗ var 1) (var 7 ⊗ var 3) q.above)) refl
+
+-- what has one of two directions that are one to the left has the other to the left
+pub way_to_left : {u w : Direction} (s : Direction) → PointSameWay u w → pos 0 <ℤ bend_of s w → pos 0 <ℤ bend_of s u
+unfolding bend_of
+way_to_left s q h = way_of_numbers s.x s.y q h
+
+-- and what is to the left of the one is to the left of the other
 left_of_way : {u w : Direction} (s : Direction) → PointSameWay u w → pos 0 <ℤ bend_of w s → pos 0 <ℤ bend_of u s
 unfolding bend_of
-left_of_way {u} {w} s q h = go u.x u.y w.x w.y s.x s.y q.m q.n q.some q.other q.across q.above h
-  where
-    go : (ux uy wx wy sx sy m n : ℤ) → pos 0 <ℤ m → pos 0 <ℤ n → m *ℤ ux ≡ n *ℤ wx → m *ℤ uy ≡ n *ℤ wy
-        → pos 0 <ℤ ((wx *ℤ sy) -ℤ (wy *ℤ sx)) → pos 0 <ℤ ((ux *ℤ sy) -ℤ (uy *ℤ sx))
-    go ux uy wx wy sx sy m n hm hn across above h =
-        less_by (num (pos 0)) (var 0 ⊗ var 5 ⊖ var 1 ⊗ var 4) (ux ∷ uy ∷ wx ∷ wy ∷ sx ∷ sy ∷ m ∷ n ∷ [])
-        (λ denied. denied ⊠ positive (var 6) hm ⊞ positive (var 7) hn ⊠ positive (var 2 ⊗ var 5 ⊖ var 3 ⊗ var 4) h
-        ⊞ scaled (var 5) (same (var 6 ⊗ var 0) (var 7 ⊗ var 2) across)
-        ⊞ scaled (minus (var 4)) (same (var 6 ⊗ var 1) (var 7 ⊗ var 3) above)) refl
-
-way_to_left : {u w : Direction} (s : Direction) → PointSameWay u w → pos 0 <ℤ bend_of s w → pos 0 <ℤ bend_of s u
-unfolding bend_of
-way_to_left {u} {w} s q h = go u.x u.y w.x w.y s.x s.y q.m q.n q.some q.other q.across q.above h
-  where
-    go : (ux uy wx wy sx sy m n : ℤ) → pos 0 <ℤ m → pos 0 <ℤ n → m *ℤ ux ≡ n *ℤ wx → m *ℤ uy ≡ n *ℤ wy
-        → pos 0 <ℤ ((sx *ℤ wy) -ℤ (sy *ℤ wx)) → pos 0 <ℤ ((sx *ℤ uy) -ℤ (sy *ℤ ux))
-    go ux uy wx wy sx sy m n hm hn across above h =
-        less_by (num (pos 0)) (var 4 ⊗ var 1 ⊖ var 5 ⊗ var 0) (ux ∷ uy ∷ wx ∷ wy ∷ sx ∷ sy ∷ m ∷ n ∷ [])
-        (λ denied. denied ⊠ positive (var 6) hm ⊞ positive (var 7) hn ⊠ positive (var 4 ⊗ var 3 ⊖ var 5 ⊗ var 2) h
-        ⊞ scaled (minus (var 5)) (same (var 6 ⊗ var 0) (var 7 ⊗ var 2) across)
-        ⊞ scaled (var 4) (same (var 6 ⊗ var 1) (var 7 ⊗ var 3) above)) refl
+left_of_way {u} {w} s q h =
+    subst (λ z. pos 0 <ℤ z) (sym (over_back u.x u.y s.x s.y))
+    (way_of_numbers (neg_ℤ s.x) (neg_ℤ s.y) q (subst (λ z. pos 0 <ℤ z) (over_back w.x w.y s.x s.y) h))
 
 -- ---- what isn't strictly between two directions
 in_turn_way : {r s t u : Direction} → PointSameWay t u → AreInTurn r s u → AreInTurn r s t

@@ -3,6 +3,7 @@
 use Rattle.std.proofs.Common.{◌≡◌, ℕ, zero, suc, ◌+◌, ◌*◌, ◌<◌, ℤ, pos, ◌+ℤ◌, ◌-ℤ◌, ◌*ℤ◌, neg_ℤ, ◌<ℤ◌, ◌≤ℤ◌, Bool, true, false}
 use Rattle.std.proofs.Common.{[], ◌∷◌, refl, sym, ◌∙◌, arith}
 use Rattle.std.proofs.lemmas.Bool.{true≢false}
+use lib.IntN.{+ℤ_comm}
 use Rattle.whole_algebra.proofs.Laws.{linear}
 use Rattle.whole_algebra.proofs.Polynomials.{var, num, ◌⊕◌, ◌⊖◌, ◌⊗◌, minus}
 use Rattle.whole_algebra.proofs.Certificates.{natural, positive, at_most, vanishing, same, same_from, less, less_by, whole}
@@ -64,18 +65,16 @@ level_across k w n l z rx ry tx ty level e =
     (same (var 0 ⊗ var 4) (var 1 ⊗ (var 3 ⊗ var 5 ⊕ var 2 ⊗ var 7) ⊕ num (pos 0) ⊗ (var 3 ⊗ var 5 ⊕ var 2 ⊗ var 7)) e)
     ⊞ scaled (minus (var 1 ⊗ (var 2 ⊗ var 6))) (vanishing (var 5 ⊗ var 8 ⊖ var 6 ⊗ var 7) level)) refl
 
--- the same of the other coordinate
+-- and of the other coordinate
 level_above : (k w n l z rx ry tx ty : ℤ) → (rx *ℤ ty) -ℤ (ry *ℤ tx) ≡ pos 0
     → k *ℤ z ≡ (w *ℤ ((l *ℤ ry) +ℤ (n *ℤ ty))) +ℤ (pos 0 *ℤ ((l *ℤ ry) +ℤ (n *ℤ ty)))
     → (k *ℤ ((rx *ℤ rx) +ℤ (ry *ℤ ry))) *ℤ z
     ≡ ((w *ℤ ((l *ℤ ((rx *ℤ rx) +ℤ (ry *ℤ ry))) +ℤ (n *ℤ ((rx *ℤ tx) +ℤ (ry *ℤ ty))))) *ℤ ry) +ℤ (pos 0 *ℤ ry)
 level_above k w n l z rx ry tx ty level e =
-    same_from ((var 0 ⊗ (var 5 ⊗ var 5 ⊕ var 6 ⊗ var 6)) ⊗ var 4)
-    ((var 1 ⊗ (var 3 ⊗ (var 5 ⊗ var 5 ⊕ var 6 ⊗ var 6) ⊕ var 2 ⊗ (var 5 ⊗ var 7 ⊕ var 6 ⊗ var 8))) ⊗ var 6 ⊕ num (pos 0) ⊗ var 6)
-    (k ∷ w ∷ n ∷ l ∷ z ∷ rx ∷ ry ∷ tx ∷ ty ∷ [])
-    (scaled (var 5 ⊗ var 5 ⊕ var 6 ⊗ var 6)
-    (same (var 0 ⊗ var 4) (var 1 ⊗ (var 3 ⊗ var 6 ⊕ var 2 ⊗ var 8) ⊕ num (pos 0) ⊗ (var 3 ⊗ var 6 ⊕ var 2 ⊗ var 8)) e)
-    ⊞ scaled (var 1 ⊗ (var 2 ⊗ var 5)) (vanishing (var 5 ⊗ var 8 ⊖ var 6 ⊗ var 7) level)) refl
+    let size = +ℤ_comm (ry *ℤ ry) (rx *ℤ rx) in
+    let dot = +ℤ_comm (ry *ℤ ty) (rx *ℤ tx) in
+    (λ i. (k *ℤ +ℤ_comm (rx *ℤ rx) (ry *ℤ ry) i) *ℤ z) ∙ level_across k w n l z ry rx ty tx (omega (arith, linear, level)) e
+    ∙ (λ i. ((w *ℤ ((l *ℤ size i) +ℤ (n *ℤ dot i))) *ℤ ry) +ℤ (pos 0 *ℤ ry))
 
 -- so the end lies in the direction of r
 level_cone : {v q p : Point} (r t : Direction) → bend_of r t ≡ pos 0 → (n l : ℕ) → IsAway v r (suc n) q → IsAway q t (suc l) p
@@ -146,55 +145,44 @@ module _ (f : Figure) (shaped : IsWellShaped f) (v : Point) where
     unfolding cover_reach
     near_twice t l beyond p away' = near_near cover.n (away_near (cover.n + cover.n) far away) (away_near (cover.n + cover.n) beyond away')
 
-    -- to the left
-    pub cover_left : (s : Direction) (b : Bool) → ((d : Direction) → IsStrictlyWithin r s d → HoldsAlong (λ p. is_covered f p ≡ b) v d)
-        → (t : Direction) → pos 0 <ℤ bend_of r t → HoldsAlong (λ p. is_covered f p ≡ b) q t
-    cover_left s b sector t left = record { from = bound; holds = at }
+    -- along t near q the areas cover what they cover along the directions in which the two steps end, if the second is short enough
+    cover_beside : (b : Bool) (t : Direction) (size : ℕ)
+        → ((l : ℕ) → (pos (suc n) *ℤ pos size) <ℤ pos (suc l) → (p : Point) → IsAway q t (suc l) p
+        → (d : Direction) × HoldsAlong (λ p. is_covered f p ≡ b) v d × IsInCone v d d p) → HoldsAlong (λ p. is_covered f p ≡ b) q t
+    cover_beside b t size ends = record { from = bound; holds = at }
       where
         bound : ℕ
-        bound = cover_reach t + suc n * size_of (bend_of t s)
-
-        bent : ¬ (bend_of r t ≡ pos 0)
-        bent z = <ℤ_apart left (sym z)
+        bound = cover_reach t + suc n * size
 
         at : (m : ℕ) → bound < m → (p : Point) → IsAway q t m p → is_covered f p ≡ b
         at zero beyond p away' = absurd (omega (arith, beyond))
         at (suc l) beyond p away' =
-            let d = both_ways r t bent n l in
-            cover_of_way b d (sector d (just_left r s t left bent n l (omega (arith, linear, beyond)))) p
-            (near_twice t l (omega (arith, beyond)) p away') (two_steps_cone r t bent n l away away')
+            let end = ends l (omega (arith, linear, beyond)) p away' in
+            cover_of_way b end.0 end.1 p (near_twice t l (omega (arith, beyond)) p away') end.2
+
+    -- to the left
+    pub cover_left : (s : Direction) (b : Bool) → ((d : Direction) → IsStrictlyWithin r s d → HoldsAlong (λ p. is_covered f p ≡ b) v d)
+        → (t : Direction) → pos 0 <ℤ bend_of r t → HoldsAlong (λ p. is_covered f p ≡ b) q t
+    cover_left s b sector t left =
+        let bent = λ (z : bend_of r t ≡ pos 0). <ℤ_apart left (sym z) in
+        cover_beside b t (size_of (bend_of t s)) (λ l short p away'.
+        let d = both_ways r t bent n l in
+        (d, sector d (just_left r s t left bent n l short), two_steps_cone r t bent n l away away'))
 
     -- to the right
     pub cover_right : (s : Direction) (b : Bool) → ((d : Direction) → IsStrictlyWithin s r d → HoldsAlong (λ p. is_covered f p ≡ b) v d)
         → (t : Direction) → pos 0 <ℤ bend_of t r → HoldsAlong (λ p. is_covered f p ≡ b) q t
-    cover_right s b sector t right = record { from = bound; holds = at }
-      where
-        bound : ℕ
-        bound = cover_reach t + suc n * size_of (bend_of s t)
-
-        bent : ¬ (bend_of r t ≡ pos 0)
-        bent = right_bent r t right
-
-        at : (m : ℕ) → bound < m → (p : Point) → IsAway q t m p → is_covered f p ≡ b
-        at zero beyond p away' = absurd (omega (arith, beyond))
-        at (suc l) beyond p away' =
-            let d = both_ways r t bent n l in
-            cover_of_way b d (sector d (just_right s r t right bent n l (omega (arith, linear, beyond)))) p
-            (near_twice t l (omega (arith, beyond)) p away') (two_steps_cone r t bent n l away away')
+    cover_right s b sector t right =
+        let bent = right_bent r t right in
+        cover_beside b t (size_of (bend_of s t)) (λ l short p away'.
+        let d = both_ways r t bent n l in
+        (d, sector d (just_right s r t right bent n l short), two_steps_cone r t bent n l away away'))
 
     -- ahead and back
     pub cover_level : (b : Bool) → HoldsAlong (λ p. is_covered f p ≡ b) v r → (t : Direction) → bend_of r t ≡ pos 0
         → HoldsAlong (λ p. is_covered f p ≡ b) q t
-    cover_level b along t level = record { from = bound; holds = at }
-      where
-        bound : ℕ
-        bound = cover_reach t + suc n * size_of (dot_of_ways r t)
-
-        at : (m : ℕ) → bound < m → (p : Point) → IsAway q t m p → is_covered f p ≡ b
-        at zero beyond p away' = absurd (omega (arith, beyond))
-        at (suc l) beyond p away' =
-            cover_of_way b r along p (near_twice t l (omega (arith, beyond)) p away')
-            (level_cone r t level n l away away' (omega (arith, linear, beyond)))
+    cover_level b along t level =
+        cover_beside b t (size_of (dot_of_ways r t)) (λ l short p away'. (r, along, level_cone r t level n l away away' short))
 
   -- along each direction of a sector the union covers, or along none
   abbrev pub IsSectorCovered : Bool → Direction → Direction → Type 0
@@ -222,25 +210,24 @@ module _ (f : Figure) (shaped : IsWellShaped f) (v : Point) where
               (λ h. cover_level r n near p away true along t h) (λ h. cover_left r n near p away s true after t h)
 
   -- ---- beside an uncovered sector nothing on the ray is interior
-  -- where the sector after the ray is uncovered
-  pub bare_left : (r s : Direction) → IsSectorCovered false r s → HoldsAlong (λ p. ¬ IsAreaInterior f p) v r
-  bare_left r s after = record { from = cover_reach r; holds = at }
+  -- where about its points some way is uncovered
+  bare_along : (r t : Direction) → ((n : ℕ) → cover_reach r < suc n → (p : Point) → IsAway v r (suc n) p
+      → HoldsAlong (λ q. is_covered f q ≡ false) p t) → HoldsAlong (λ p. ¬ IsAreaInterior f p) v r
+  bare_along r t uncovered = record { from = cover_reach r; holds = at }
     where
       at : (m : ℕ) → cover_reach r < m → (p : Point) → IsAway v r m p → ¬ IsAreaInterior f p
       at zero far p away inside = omega (arith, far)
-      at (suc n) far p away inside =
-          let t = left_turn r in
-          not_uncovered f p t ((around_from_interior f p inside).along t) (cover_left r n far p away s false after t (left_turn_left r))
+      at (suc n) far p away inside = not_uncovered f p t ((around_from_interior f p inside).along t) (uncovered n far p away)
 
-  -- where the sector before it is
+  -- as where the sector after the ray is uncovered
+  pub bare_left : (r s : Direction) → IsSectorCovered false r s → HoldsAlong (λ p. ¬ IsAreaInterior f p) v r
+  bare_left r s after =
+      bare_along r (left_turn r) (λ n far p away. cover_left r n far p away s false after (left_turn r) (left_turn_left r))
+
+  -- or the sector before it
   pub bare_right : (q r : Direction) → IsSectorCovered false q r → HoldsAlong (λ p. ¬ IsAreaInterior f p) v r
-  bare_right q r before = record { from = cover_reach r; holds = at }
-    where
-      at : (m : ℕ) → cover_reach r < m → (p : Point) → IsAway v r m p → ¬ IsAreaInterior f p
-      at zero far p away inside = omega (arith, far)
-      at (suc n) far p away inside =
-          let t = right_turn r in
-          not_uncovered f p t ((around_from_interior f p inside).along t) (cover_right r n far p away q false before t (right_turn_right r))
+  bare_right q r before =
+      bare_along r (right_turn r) (λ n far p away. cover_right r n far p away q false before (right_turn r) (right_turn_right r))
 
   -- ---- what is interior is so in all directions
   pub interior_is_open : IsAreaInterior f v → (d : Direction) → HoldsAlong (λ p. IsAreaInterior f p) v d

@@ -36,7 +36,7 @@ use Rattle.ring_laws.proofs.Room.Edges.{HoldBoth, HasRoom, room}
 use Rattle.plane_laws.proofs.Near.Away.{away_point, away_point_is, away_near, far_for}
 use Rattle.ring_laws.proofs.Germs.Areas.{segment_within}
 use Rattle.ring_laws.proofs.Germs.Edges.{on_true}
-use Rattle.side_laws.proofs.Areas.Hands.{AreRingsClean, area_clean, hole_shaped}
+use Rattle.side_laws.proofs.Areas.Hands.{AreRingsClean, area_clean, hole_shaped, rings_unshared}
 use Rattle.side_laws.proofs.Edges.Beside.{held_at}
 use Rattle.side_laws.proofs.Edges.Germ.{between_not_start, between_not_end}
 use Rattle.side_laws.proofs.Edges.Places.{IsSimple, ring_is_simple, alone_within}
@@ -74,25 +74,8 @@ module _ (f : Figure) (shaped : IsWellShaped f) (valid : IsValid f) (place : ℕ
           → (x y : ℕ) (a b : Seg) → IsAtPlace (edges_of one) x a → IsAtPlace (edges_of other) y b → IsOnEdge a v → IsOnEdge a q
           → IsOnEdge b v → IsOnEdge b q → ⊥
       crossed k l before one other one_is other_is x y a b a_is b_is a_v a_q b_v b_q =
-          clean.unshared (record {
-            i = k;
-            j = l;
-            earlier = before;
-            one = one;
-            other = other;
-            one_is = one_is;
-            other_is = other_is;
-            share = record {
-              i = x;
-              j = y;
-              e = a;
-              f = b;
-              e_is = a_is;
-              f_is = b_is;
-              share =
-                  record { a = v; b = q; apart = apart; held = λ p on. (segment_within a_v a_q on, segment_within b_v b_q on) };
-            };
-          })
+          rings_unshared clean.unshared k l before one other one_is other_is x y a b a_is b_is
+          (record { a = v; b = q; apart = apart; held = λ p on. (segment_within a_v a_q on, segment_within b_v b_q on) })
 
       by_place : (ring : List Pt) → IsSimple (edges_of ring) → (x y : ℕ) → IsAtPlace (edges_of ring) x e → IsAtPlace (edges_of ring) y g
           → (x ≡ y) ⊎ (x ≡ y → ⊥) → e ≡ g

@@ -172,6 +172,17 @@ back_level c d p t up before level at_p off = go (at_most_or p d) (at_most_or t 
     )
     go (inr h) (inr k) = inl (λ m on held. not_before m d (parts m held).1 (before_then d t m k (way m on).0))
 
+-- ---- an edge that is one point
+one_point : (c d p t : Point) → IsSamePoint c d → (b : Bool) → is_on_segment p t c ≡ b → Nearest c d p t
+one_point c d p t same true h = inr (
+  c,
+  (Decides-is_on_segment p t c).0 h,
+  start_on_segment c d,
+  λ m within held. same_sym (on_segment_of_same same held),
+)
+one_point c d p t same false h = inl (λ m on held. true≢false
+    (sym ((Decides-is_on_segment p t c).1 (segment_same (same_refl p) (same_refl t) (same_sym (on_segment_of_same same held)) on)) ∙ h))
+
 -- ---- all cases
 level_edge : (c d p t : Point) → turn p t c ≡ pos 0 → turn p t d ≡ pos 0 → turn c d p ≡ pos 0 → ¬ IsOnSegment c d p → Nearest c d p t
 level_edge c d p t level_c level_d at_p off = by_way (compare_points p t) refl (compare_points c d) refl
@@ -188,18 +199,6 @@ level_edge c d p t level_c level_d at_p off = by_way (compare_points p t) refl (
     off' : ¬ IsOnSegment d c p
     off' on = off (segment_flip on)
 
-    one_point : IsSamePoint c d → (b : Bool) → is_on_segment p t c ≡ b → Nearest c d p t
-    one_point same true h = inr (
-      c,
-      (Decides-is_on_segment p t c).0 h,
-      start_on_segment c d,
-      λ m within held. same_sym
-          (on_segment_of_same same held),
-    )
-    one_point same false h = inl (λ m on held. true≢false
-        (sym ((Decides-is_on_segment p t c).1 (segment_same (same_refl p) (same_refl t) (same_sym (on_segment_of_same same held)) on))
-        ∙ h))
-
     flip_before : (x y : Point) → compare_points x y ≡ Greater → IsBefore y x
     flip_before x y e = compare_points_total.antisymm y x ∙ ap ordering_reverse e
 
@@ -207,10 +206,10 @@ level_edge c d p t level_c level_d at_p off = by_way (compare_points p t) refl (
     by_way Equal e r f = inl (none (same_compare_points p t e))
     by_way Less e Less f = ahead_level c d p t f e level_c at_p off
     by_way Less e Greater f = turned (ahead_level d c p t (flip_before c d f) e level_d at_p' off')
-    by_way Less e Equal f = one_point (same_compare_points c d f) (is_on_segment p t c) refl
+    by_way Less e Equal f = one_point c d p t (same_compare_points c d f) (is_on_segment p t c) refl
     by_way Greater e Less f = back_level c d p t f (flip_before p t e) (back d level_d) at_p off
     by_way Greater e Greater f = turned (back_level d c p t (flip_before c d f) (flip_before p t e) (back c level_c) at_p' off')
-    by_way Greater e Equal f = one_point (same_compare_points c d f) (is_on_segment p t c) refl
+    by_way Greater e Equal f = one_point c d p t (same_compare_points c d f) (is_on_segment p t c) refl
 
 nearest : (c d p t : Point) → ¬ IsOnSegment c d p → Nearest c d p t
 nearest c d p t off = by_sign ((turn c d t *ℤ p.w) -ℤ (turn c d p *ℤ t.w)) against parallel (crossed c d p t)
@@ -259,19 +258,7 @@ nearest c d p t off = by_sign ((turn c d t *ℤ p.w) -ℤ (turn c d p *ℤ t.w))
                 let apart : ¬ IsSamePoint c d = λ same. true≢false (sym ((Decides-is_same_point c d).1 same) ∙ e) in
                 level_edge c d p t (three_on_line c d p t c apart h at_t (turn_ends c d).0)
                 (three_on_line c d p t d apart h at_t (turn_ends c d).1) h off
-            by_points true e = one_point ((Decides-is_same_point c d).0 e) (is_on_segment p t c) refl
-              where
-                one_point : IsSamePoint c d → (b : Bool) → is_on_segment p t c ≡ b → Nearest c d p t
-                one_point joined true f = inr (
-                  c,
-                  (Decides-is_on_segment p t c).0 f,
-                  start_on_segment c d,
-                  λ m within held. same_sym
-                      (on_segment_of_same joined held),
-                )
-                one_point joined false f = inl (λ m on held. true≢false
-                    (sym ((Decides-is_on_segment p t c).1 (segment_same (same_refl p) (same_refl t)
-                    (same_sym (on_segment_of_same joined held)) on)) ∙ f))
+            by_points true e = one_point c d p t ((Decides-is_same_point c d).0 e) (is_on_segment p t c) refl
 
 pub first_of_one : LawFirstOfOne
 first_of_one e p t off = go (nearest (point_of e.a) (point_of e.b) p t

@@ -41,49 +41,33 @@ pub record Another (c d p h : Point) : Type 0 where
 swapped : {c d p h : Point} → Another d c p h → Another c d p h
 swapped a = record { m = a.m; on_first = segment_flip a.on_first; on_second = a.on_second; apart = a.apart }
 
+-- it may be p, where the segment holds p
+at_point : (c d p h : Point) → IsOnSegment c d p → ¬ IsSamePoint p h → Another c d p h
+at_point c d p h on apart = record { m = p; on_first = on; on_second = start_on_segment p h; apart = apart }
+
+-- or an end of the segment
+at_end : {c d p h : Point} (m : Point) → IsOnSegment c d m → IsOnSegment p h m → ¬ IsSamePoint h m → Another c d p h
+at_end m on_first on_second apart = record { m = m; on_first = on_first; on_second = on_second; apart = λ s. apart (same_sym s) }
+
 -- h is inside the segment from c to d, which goes ahead; p is on its line, before h
 ahead : (c d p h : Point) → IsBefore c d → IsBefore p h → IsOnSegment c d h → ¬ IsSamePoint h c → ¬ IsSamePoint p h → turn c d p ≡ pos 0
     → turn p h c ≡ pos 0 → Another c d p h
-ahead c d p h up before on not_c not_p level line = go (at_most_or c p)
+ahead c d p h up before on not_c not_p level line = go (at_most_or c p) (on_segment-AtMost c d h up on)
   where
-    ends : AtMost c h × AtMost h d
-    ends = on_segment-AtMost c d h up on
-
-    go : AtMost c p ⊎ IsBefore p c → Another c d p h
-    go (inl k) = record {
-      m = p;
-      on_first = on_segment-from_AtMost c d p up level k (at_most_trans p h d (before_at_most p h before) ends.1);
-      on_second = start_on_segment p h;
-      apart = not_p;
-    }
-    go (inr k) = record {
-      m = c;
-      on_first = start_on_segment c d;
-      on_second = on_segment-from_AtMost p h c before line (before_at_most p c k) ends.0;
-      apart = λ s. not_c (same_sym s);
-    }
+    go : AtMost c p ⊎ IsBefore p c → AtMost c h × AtMost h d → Another c d p h
+    go (inl k) ends = at_point c d p h (on_segment-from_AtMost c d p up level k (at_most_trans p h d (before_at_most p h before) ends.1)) not_p
+    go (inr k) ends = at_end c (start_on_segment c d) (on_segment-from_AtMost p h c before line (before_at_most p c k) ends.0) not_c
 
 -- the same with p behind h
 behind : (c d p h : Point) → IsBefore c d → IsBefore h p → IsOnSegment c d h → ¬ IsSamePoint h d → ¬ IsSamePoint p h → turn c d p ≡ pos 0
     → turn h p d ≡ pos 0 → Another c d p h
-behind c d p h up before on not_d not_p level line = go (at_most_or p d)
+behind c d p h up before on not_d not_p level line = go (at_most_or p d) (on_segment-AtMost c d h up on)
   where
-    ends : AtMost c h × AtMost h d
-    ends = on_segment-AtMost c d h up on
-
-    go : AtMost p d ⊎ IsBefore d p → Another c d p h
-    go (inl k) = record {
-      m = p;
-      on_first = on_segment-from_AtMost c d p up level (at_most_trans c h p ends.0 (before_at_most h p before)) k;
-      on_second = start_on_segment p h;
-      apart = not_p;
-    }
-    go (inr k) = record {
-      m = d;
-      on_first = segment_flip (start_on_segment d c);
-      on_second = segment_flip (on_segment-from_AtMost h p d before line ends.1 (before_at_most d p k));
-      apart = λ s. not_d (same_sym s);
-    }
+    go : AtMost p d ⊎ IsBefore d p → AtMost c h × AtMost h d → Another c d p h
+    go (inl k) ends = at_point c d p h (on_segment-from_AtMost c d p up level (at_most_trans c h p ends.0 (before_at_most h p before)) k) not_p
+    go (inr k) ends =
+        at_end d (segment_flip (start_on_segment d c)) (segment_flip (on_segment-from_AtMost h p d before line ends.1 (before_at_most d p k)))
+        not_d
 
 -- what is after is before, the other way round
 greater_before : (x y : Point) → compare_points x y ≡ Greater → IsBefore y x

@@ -183,7 +183,7 @@ upward_trans dx dy ex ey fx fy (inl d) (inl e) (inl f) h k =
     let q = var 2 ⊗ var 5 ⊖ var 3 ⊗ var 4 in
     less_by (num (pos 0)) (var 0 ⊗ var 5 ⊖ var 1 ⊗ var 4) (dx ∷ dy ∷ ex ∷ ey ∷ fx ∷ fy ∷ [])
     (λ denied. denied ⊠ positive (var 3) e ⊞ positive (var 5) f ⊠ positive p h ⊞ positive (var 1) d ⊠ positive q k) refl
-upward_trans dx dy ex ey fx fy (inl d) (inl e) (inr f) h k =
+upward_trans dx dy ex ey fx fy d (inl e) (inr f) h k =
     impossible_by (dx ∷ dy ∷ ex ∷ ey ∷ fx ∷ fy ∷ [])
     (positive (var 2 ⊗ var 5 ⊖ var 3 ⊗ var 4) k ⊞ positive (var 3) e ⊠ positive (var 4) f.1
     ⊞ scaled (minus (var 2)) (vanishing (var 5) f.0)) refl
@@ -194,10 +194,6 @@ upward_trans dx dy ex ey fx fy (inl d) (inr e) f h k =
 upward_trans dx dy ex ey fx fy (inr d) (inl e) (inl f) h k =
     less_by (num (pos 0)) (var 0 ⊗ var 5 ⊖ var 1 ⊗ var 4) (dx ∷ dy ∷ ex ∷ ey ∷ fx ∷ fy ∷ [])
     (λ denied. denied ⊞ positive (var 0) d.1 ⊠ positive (var 5) f ⊞ scaled (minus (var 4)) (vanishing (var 1) d.0)) refl
-upward_trans dx dy ex ey fx fy (inr d) (inl e) (inr f) h k =
-    impossible_by (dx ∷ dy ∷ ex ∷ ey ∷ fx ∷ fy ∷ [])
-    (positive (var 2 ⊗ var 5 ⊖ var 3 ⊗ var 4) k ⊞ positive (var 3) e ⊠ positive (var 4) f.1
-    ⊞ scaled (minus (var 2)) (vanishing (var 5) f.0)) refl
 upward_trans dx dy ex ey fx fy (inr d) (inr e) f h k =
     impossible_by (dx ∷ dy ∷ ex ∷ ey ∷ fx ∷ fy ∷ [])
     (positive (var 0 ⊗ var 3 ⊖ var 1 ⊗ var 2) h ⊞ scaled (minus (var 0)) (vanishing (var 3) e.0)

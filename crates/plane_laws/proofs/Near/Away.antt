@@ -95,7 +95,8 @@ some_weight {a} {b} {m} {s} {t} mix =
     ⊞ natural (var 1) mix.first ⊠ positive (var 4) b.heavy ⊞ natural (var 2) mix.second ⊠ positive (var 3) a.heavy
     ⊞ positive (var 0) mix.some ⊠ positive (var 5) m.heavy ⊞ same (var 1 ⊗ var 3 ⊕ var 2 ⊗ var 4) (var 0 ⊗ var 5) (sym mix.mass)) refl
 
-cone_some : (s t n l u w : ℤ) → pos 0 ≤ℤ s → pos 0 ≤ℤ t → pos 0 <ℤ (s +ℤ t) → pos 0 <ℤ n → pos 0 <ℤ l → pos 0 <ℤ u → pos 0 <ℤ w
+-- positive multiples of two weights of which one is positive have a positive sum
+pub cone_some : (s t n l u w : ℤ) → pos 0 ≤ℤ s → pos 0 ≤ℤ t → pos 0 <ℤ (s +ℤ t) → pos 0 <ℤ n → pos 0 <ℤ l → pos 0 <ℤ u → pos 0 <ℤ w
     → pos 0 <ℤ (((s *ℤ l) *ℤ u) +ℤ ((t *ℤ n) *ℤ w))
 cone_some s t n l u w hs ht h hn hl hu hw =
     less_by (num (pos 0)) ((var 0 ⊗ var 3) ⊗ var 4 ⊕ (var 1 ⊗ var 2) ⊗ var 5) (s ∷ t ∷ n ∷ l ∷ u ∷ w ∷ [])

@@ -1,12 +1,13 @@
 -- Triangles strictly round a point: each holds all near points, and some of them are near.
-use Rattle.std.proofs.Common.{◌≡◌, ℕ, suc, ◌+◌, ℤ, pos, negsuc, ◌+ℤ◌, ◌*ℤ◌, neg_ℤ, ◌<ℤ◌, ◌≤ℤ◌, List, [], ◌∷◌, refl, ◌∙◌, arith}
-use Rattle.whole_algebra.proofs.Laws.{linear}
+use Rattle.std.proofs.Common.{◌≡◌, ℕ, suc, ◌+◌, ℤ, pos, negsuc, ◌+ℤ◌, ◌-ℤ◌, ◌*ℤ◌, neg_ℤ, ◌<ℤ◌, ◌≤ℤ◌, List, [], ◌∷◌, refl, ◌∙◌, arith}
+use Rattle.whole_algebra.proofs.Laws.{linear, neg-*ℤ}
 use Rattle.whole_algebra.proofs.Polynomials.{Poly, var, num, ◌⊕◌, ◌⊖◌, ◌⊗◌, minus, identity}
 use Rattle.whole_algebra.proofs.Certificates.{natural, positive, at_most, same, same_from, at_most_by, less_by, scaled, ◌⊞◌, ◌⊠◌}
 use Rattle.whole_algebra.proofs.Signs.{by_sign, <ℤ_weaken, pos_nonzero, pos-*-pos}
 use Rattle.plane_laws.proofs.Turns.Turns.{PolyPoint, point_at, turn_poly, ◌then◌, turn_cycle, turn_swap}
 use Rattle.plane_laws.specs.Plane.{Point, IsMixOfThree, IsInTriangle, IsStrictlyInTriangle, turn, rise, shift}
 use Rattle.plane_laws.specs.Directions.{Direction}
+use Rattle.plane_laws.proofs.Segments.Mixes.{three_cycle}
 use Rattle.plane_laws.proofs.Near.Parted.{Affine, at_point, turn_by, turn_by_is, turn_ends}
 use Rattle.plane_laws.proofs.Near.Near.{IsNear, reach_of, positive_near}
 use Rattle.plane_laws.proofs.Near.Away.{away_point, away_point_is, away_near, far_for}
@@ -79,18 +80,7 @@ pub record HoldsNear (a b c v : Point) : Type 0 where
   pub n : ℕ
   pub held : (q : Point) → IsNear v n q → IsInTriangle a b c q
 
-three_turned : {a b c p : Point} {s t u : ℤ} → IsMixOfThree a b c p s t u → IsMixOfThree b c a p t u s
-three_turned m = record {
-  first = m.second;
-  second = m.third;
-  third = m.first;
-  times = m.times;
-  some = m.some;
-  across = let e = m.across in omega (arith, linear, e);
-  above = let e = m.above in omega (arith, linear, e);
-  mass = let e = m.mass in omega (arith, linear, e);
-}
-
+-- the first two points of a mix change places
 three_swapped : {a b c p : Point} {s t u : ℤ} → IsMixOfThree a b c p s t u → IsMixOfThree b a c p t s u
 three_swapped m = record {
   first = m.second;
@@ -109,9 +99,9 @@ left_holds_near a b c v m hs ht hu h = record {
   n = n;
   held = λ q near.
       weights a b c q h
-      (at_least b c q (positive_near (turn_by b c) v q n (third_positive b c a v (three_turned m) hs
+      (at_least b c q (positive_near (turn_by b c) v q n (third_positive b c a v (three_cycle m) hs
       (omega (arith, linear, h, turn_cycle a b c))) (omega arith) near))
-      (at_least c a q (positive_near (turn_by c a) v q n (third_positive c a b v (three_turned (three_turned m)) ht
+      (at_least c a q (positive_near (turn_by c a) v q n (third_positive c a b v (three_cycle (three_cycle m)) ht
       (omega (arith, linear, h, turn_cycle a b c, turn_cycle b c a))) (omega arith) near))
       (at_least a b q (positive_near (turn_by a b) v q n (third_positive a b c v m hu h) (omega arith) near));
 }
@@ -153,36 +143,41 @@ three_side' : (v_w s t u k a_w b_w c_w q_w x y z r n : ℤ) → pos 0 <ℤ k →
     → k *ℤ q_w ≡ ((s *ℤ a_w) +ℤ (t *ℤ b_w)) +ℤ (u *ℤ c_w) → k *ℤ r ≡ ((s *ℤ x) +ℤ (t *ℤ y)) +ℤ (u *ℤ z) → neg_ℤ (v_w *ℤ a_w) ≤ℤ (n *ℤ x)
     → neg_ℤ (v_w *ℤ b_w) ≤ℤ (n *ℤ y) → neg_ℤ (v_w *ℤ c_w) ≤ℤ (n *ℤ z) → neg_ℤ (v_w *ℤ q_w) ≤ℤ (n *ℤ r)
 three_side' v_w s t u k a_w b_w c_w q_w x y z r n hk hs ht hu e f h l m =
-    at_most_by (minus (var 0 ⊗ var 8)) (var 13 ⊗ var 12) (v_w ∷ s ∷ t ∷ u ∷ k ∷ a_w ∷ b_w ∷ c_w ∷ q_w ∷ x ∷ y ∷ z ∷ r ∷ n ∷ [])
-    (λ denied. denied ⊠ positive (var 4) hk
-    ⊞ natural (var 1) hs ⊠ at_most (minus (var 0 ⊗ var 5)) (var 13 ⊗ var 9) h
-    ⊞ natural (var 2) ht ⊠ at_most (minus (var 0 ⊗ var 6)) (var 13 ⊗ var 10) l
-    ⊞ natural (var 3) hu ⊠ at_most (minus (var 0 ⊗ var 7)) (var 13 ⊗ var 11) m
-    ⊞ scaled (var 0) (same (var 4 ⊗ var 8) ((var 1 ⊗ var 5 ⊕ var 2 ⊗ var 6) ⊕ var 3 ⊗ var 7) e)
-    ⊞ scaled (var 13) (same (var 4 ⊗ var 12) ((var 1 ⊗ var 9 ⊕ var 2 ⊗ var 10) ⊕ var 3 ⊗ var 11) f)) refl
+    omega (
+      arith,
+      linear,
+      neg-*ℤ n r,
+      three_side v_w s t u k a_w b_w c_w q_w x y z r (neg_ℤ n) hk hs ht hu e f
+          (low (v_w *ℤ a_w) x h) (low (v_w *ℤ b_w) y l) (low (v_w *ℤ c_w) z m),
+    )
+  where
+    low : (bound step : ℤ) → neg_ℤ bound ≤ℤ (n *ℤ step) → (neg_ℤ n *ℤ step) ≤ℤ bound
+    low bound step h = omega (arith, linear, h, neg-*ℤ n step)
+
+-- one coordinate of a mix of three, as a step from v
+step_three : (k s t u q x v w a a_w b b_w c c_w : ℤ) → k *ℤ q ≡ ((s *ℤ a) +ℤ (t *ℤ b)) +ℤ (u *ℤ c)
+    → k *ℤ x ≡ ((s *ℤ a_w) +ℤ (t *ℤ b_w)) +ℤ (u *ℤ c_w) → k *ℤ ((q *ℤ w) -ℤ (v *ℤ x))
+    ≡ ((s *ℤ ((a *ℤ w) -ℤ (v *ℤ a_w))) +ℤ (t *ℤ ((b *ℤ w) -ℤ (v *ℤ b_w)))) +ℤ (u *ℤ ((c *ℤ w) -ℤ (v *ℤ c_w)))
+step_three k s t u q x v w a a_w b b_w c c_w e f =
+    same_from (var 0 ⊗ (var 4 ⊗ var 7 ⊖ var 6 ⊗ var 5))
+    ((var 1 ⊗ (var 8 ⊗ var 7 ⊖ var 6 ⊗ var 9) ⊕ var 2 ⊗ (var 10 ⊗ var 7 ⊖ var 6 ⊗ var 11)) ⊕ var 3 ⊗
+    (var 12 ⊗ var 7 ⊖ var 6 ⊗ var 13))
+    (k ∷ s ∷ t ∷ u ∷ q ∷ x ∷ v ∷ w ∷ a ∷ a_w ∷ b ∷ b_w ∷ c ∷ c_w ∷ [])
+    (scaled (var 7) (same (var 0 ⊗ var 4) ((var 1 ⊗ var 8 ⊕ var 2 ⊗ var 10) ⊕ var 3 ⊗ var 12) e)
+    ⊞ scaled (minus (var 6)) (same (var 0 ⊗ var 5) ((var 1 ⊗ var 9 ⊕ var 2 ⊗ var 11) ⊕ var 3 ⊗ var 13) f)) refl
 
 -- the steps across and up are affine functions
 shift_three : (v : Point) {a b c q : Point} {s t u : ℤ} (m : IsMixOfThree a b c q s t u)
     → m.times *ℤ shift v q ≡ ((s *ℤ shift v a) +ℤ (t *ℤ shift v b)) +ℤ (u *ℤ shift v c)
 unfolding shift
 shift_three v {a} {b} {c} {q} {s} {t} {u} m =
-    same_from (var 0 ⊗ (var 4 ⊗ var 6 ⊖ var 5 ⊗ var 7))
-    ((var 1 ⊗ (var 8 ⊗ var 6 ⊖ var 5 ⊗ var 9) ⊕ var 2 ⊗ (var 10 ⊗ var 6 ⊖ var 5 ⊗ var 11)) ⊕ var 3 ⊗
-    (var 12 ⊗ var 6 ⊖ var 5 ⊗ var 13))
-    (m.times ∷ s ∷ t ∷ u ∷ q.x ∷ v.x ∷ v.w ∷ q.w ∷ a.x ∷ a.w ∷ b.x ∷ b.w ∷ c.x ∷ c.w ∷ [])
-    (scaled (var 6) (same (var 0 ⊗ var 4) ((var 1 ⊗ var 8 ⊕ var 2 ⊗ var 10) ⊕ var 3 ⊗ var 12) m.across)
-    ⊞ scaled (minus (var 5)) (same (var 0 ⊗ var 7) ((var 1 ⊗ var 9 ⊕ var 2 ⊗ var 11) ⊕ var 3 ⊗ var 13) m.mass)) refl
+    step_three m.times s t u q.x q.w v.x v.w a.x a.w b.x b.w c.x c.w m.across m.mass
 
 rise_three : (v : Point) {a b c q : Point} {s t u : ℤ} (m : IsMixOfThree a b c q s t u)
     → m.times *ℤ rise v q ≡ ((s *ℤ rise v a) +ℤ (t *ℤ rise v b)) +ℤ (u *ℤ rise v c)
 unfolding rise
 rise_three v {a} {b} {c} {q} {s} {t} {u} m =
-    same_from (var 0 ⊗ (var 4 ⊗ var 6 ⊖ var 5 ⊗ var 7))
-    ((var 1 ⊗ (var 8 ⊗ var 6 ⊖ var 5 ⊗ var 9) ⊕ var 2 ⊗ (var 10 ⊗ var 6 ⊖ var 5 ⊗ var 11)) ⊕ var 3 ⊗
-    (var 12 ⊗ var 6 ⊖ var 5 ⊗ var 13))
-    (m.times ∷ s ∷ t ∷ u ∷ q.y ∷ v.y ∷ v.w ∷ q.w ∷ a.y ∷ a.w ∷ b.y ∷ b.w ∷ c.y ∷ c.w ∷ [])
-    (scaled (var 6) (same (var 0 ⊗ var 4) ((var 1 ⊗ var 8 ⊕ var 2 ⊗ var 10) ⊕ var 3 ⊗ var 12) m.above)
-    ⊞ scaled (minus (var 5)) (same (var 0 ⊗ var 7) ((var 1 ⊗ var 9 ⊕ var 2 ⊗ var 11) ⊕ var 3 ⊗ var 13) m.mass)) refl
+    step_three m.times s t u q.y q.w v.y v.w a.y a.w b.y b.w c.y c.w m.above m.mass
 
 near_three : {v a b c q : Point} {n : ℕ} → IsNear v n a → IsNear v n b → IsNear v n c → IsInTriangle a b c q → IsNear v n q
 near_three {v} {a} {b} {c} {q} {n} h k l within =

@@ -22,30 +22,23 @@ shift_q a b = b.x ⊗ a.w ⊖ a.x ⊗ b.w
 abbrev rise_q : PolyPoint → PolyPoint → Poly
 rise_q a b = b.y ⊗ a.w ⊖ a.y ⊗ b.w
 
-shift_of_turn : (a b p q r : Point) → shift a b *ℤ turn p q r ≡ (turn a b p *ℤ shift q r +ℤ turn a b q *ℤ shift r p) +ℤ turn a b r *ℤ
-    shift p q
-unfolding shift turn
-shift_of_turn a b p q r =
+-- a step from a to b times the turn of three points, by the steps between the three
+step_of_turn : (a b p q r : Point)
+    → (shift a b *ℤ turn p q r ≡ (turn a b p *ℤ shift q r +ℤ turn a b q *ℤ shift r p) +ℤ turn a b r *ℤ shift p q)
+    × (rise a b *ℤ turn p q r ≡ (turn a b p *ℤ rise q r +ℤ turn a b q *ℤ rise r p) +ℤ turn a b r *ℤ rise p q)
+unfolding shift rise turn
+step_of_turn a b p q r =
     let va = point_at 0 in
     let vb = point_at 3 in
     let vp = point_at 6 in
     let vq = point_at 9 in
     let vr = point_at 12 in
-    identity (shift_q va vb ⊗ turn_poly vp vq vr)
-    ((turn_poly va vb vp ⊗ shift_q vq vr ⊕ turn_poly va vb vq ⊗ shift_q vr vp) ⊕ turn_poly va vb vr ⊗ shift_q vp vq)
-    (a then b then p then q then r then []) refl
-
-rise_of_turn : (a b p q r : Point) → rise a b *ℤ turn p q r ≡ (turn a b p *ℤ rise q r +ℤ turn a b q *ℤ rise r p) +ℤ turn a b r *ℤ rise p q
-unfolding rise turn
-rise_of_turn a b p q r =
-    let va = point_at 0 in
-    let vb = point_at 3 in
-    let vp = point_at 6 in
-    let vq = point_at 9 in
-    let vr = point_at 12 in
-    identity (rise_q va vb ⊗ turn_poly vp vq vr)
-    ((turn_poly va vb vp ⊗ rise_q vq vr ⊕ turn_poly va vb vq ⊗ rise_q vr vp) ⊕ turn_poly va vb vr ⊗ rise_q vp vq)
-    (a then b then p then q then r then []) refl
+    let parted = λ (step : PolyPoint → PolyPoint → Poly).
+    (turn_poly va vb vp ⊗ step vq vr ⊕ turn_poly va vb vq ⊗ step vr vp) ⊕ turn_poly va vb vr ⊗ step vp vq in
+    let vs = a then b then p then q then r then [] in (
+      identity (shift_q va vb ⊗ turn_poly vp vq vr) (parted (λ v w. shift_q v w)) vs refl,
+      identity (rise_q va vb ⊗ turn_poly vp vq vr) (parted (λ v w. rise_q v w)) vs refl,
+    )
 
 nothing : (l x y z u v w m : ℤ) → l ≡ (x *ℤ u +ℤ y *ℤ v) +ℤ z *ℤ w → x ≡ pos 0 → y ≡ pos 0 → z ≡ pos 0 → l ≡ pos 0
 nothing l x y z u v w m e ex ey ez = e ∙ (λ i. (ex i *ℤ u +ℤ ey i *ℤ v) +ℤ ez i *ℤ w) ∙ (λ i. (zero-*ℤ u i +ℤ zero-*ℤ v i) +ℤ zero-*ℤ w i)
@@ -59,11 +52,11 @@ three_on_line a b p q r apart ep eq er = by_sign (shift a b)
   where
     by_shift : ¬ (shift a b ≡ pos 0) → turn p q r ≡ pos 0
     by_shift n = zero_factor (shift a b) (turn p q r) n
-        (nothing _ (turn a b p) (turn a b q) (turn a b r) (shift q r) (shift r p) (shift p q) (pos 0) (shift_of_turn a b p q r) ep eq er)
+        (nothing _ (turn a b p) (turn a b q) (turn a b r) (shift q r) (shift r p) (shift p q) (pos 0) (step_of_turn a b p q r).0 ep eq er)
 
     by_rise : ¬ (rise a b ≡ pos 0) → turn p q r ≡ pos 0
     by_rise n = zero_factor (rise a b) (turn p q r) n
-        (nothing _ (turn a b p) (turn a b q) (turn a b r) (rise q r) (rise r p) (rise p q) (pos 0) (rise_of_turn a b p q r) ep eq er)
+        (nothing _ (turn a b p) (turn a b q) (turn a b r) (rise q r) (rise r p) (rise p q) (pos 0) (step_of_turn a b p q r).1 ep eq er)
 
 -- ---- a segment that goes ahead has exactly the points of its line from its beginning to its end
 -- p is at most q: it isn't after it

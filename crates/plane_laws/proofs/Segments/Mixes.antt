@@ -1,5 +1,5 @@
 -- Mixes of two and of three points: their order, their reading as means, and that they hold for the points and not for their triples.
-use Rattle.std.proofs.Common.{◌≡◌, ℤ, pos, ◌+ℤ◌, ◌*ℤ◌, ◌<ℤ◌, [], ◌∷◌, refl, ◌∙◌, subst, arith}
+use Rattle.std.proofs.Common.{◌≡◌, ℤ, pos, ◌+ℤ◌, ◌*ℤ◌, ◌<ℤ◌, ◌≤ℤ◌, [], ◌∷◌, refl, ◌∙◌, subst, arith}
 use lib.IntN.{+ℤ_comm, *ℤ_comm}
 use Rattle.whole_algebra.proofs.Laws.{linear}
 use Rattle.whole_algebra.proofs.Polynomials.{var, num, ◌⊕◌, ◌⊗◌, minus, identity}
@@ -27,19 +27,17 @@ segment_flip on = record { s = on.t; t = on.s; mix = mix_flip on.mix }
 only_first : (a b : ℤ) → pos 1 *ℤ a ≡ pos 1 *ℤ a +ℤ pos 0 *ℤ b
 only_first a b = identity (num (pos 1) ⊗ var 0) (num (pos 1) ⊗ var 0 ⊕ num (pos 0) ⊗ var 1) (a ∷ b ∷ []) refl
 
+-- a point whose numbers are sums of multiples of those of the ends is a mix
+pub mix_of_sums : {a b p : Point} {s t : ℤ} → pos 0 ≤ℤ s → pos 0 ≤ℤ t → pos 1 *ℤ p.x ≡ s *ℤ a.x +ℤ t *ℤ b.x
+    → pos 1 *ℤ p.y ≡ s *ℤ a.y +ℤ t *ℤ b.y → pos 1 *ℤ p.w ≡ s *ℤ a.w +ℤ t *ℤ b.w → IsMix a b p s t
+mix_of_sums hs ht across above mass =
+    record { first = hs; second = ht; times = pos 1; some = omega (arith, linear); across = across; above = above; mass = mass }
+
 pub start_on_segment : (a b : Point) → IsOnSegment a b a
 start_on_segment a b = record {
   s = pos 1;
   t = pos 0;
-  mix = record {
-    first = omega (arith, linear);
-    second = omega (arith, linear);
-    times = pos 1;
-    some = omega (arith, linear);
-    across = only_first a.x b.x;
-    above = only_first a.y b.y;
-    mass = only_first a.w b.w;
-  };
+  mix = mix_of_sums (omega (arith, linear)) (omega (arith, linear)) (only_first a.x b.x) (only_first a.y b.y) (only_first a.w b.w);
 }
 
 pub end_on_segment : (a b : Point) → IsOnSegment a b b
@@ -125,24 +123,23 @@ mix_same_mix {a} {b} {p} {p'} {s} {t} h m = record {
   mass = move_mix m.times p.w p.w s a.w t b.w p'.w p'.w m.mass (*ℤ_comm p.w p'.w);
 }
 
-pub segment_same : {a a' b b' p p' : Point} → IsSamePoint a a' → IsSamePoint b b' → IsSamePoint p p' → IsOnSegment a b p
-    → IsOnSegment a' b' p'
-segment_same {a} {a'} {b} {b'} {p} {p'} ha hb hp on = record {
-  s = ((on.s *ℤ a.w) *ℤ b'.w) *ℤ p'.w;
-  t = ((on.t *ℤ a'.w) *ℤ b.w) *ℤ p'.w;
-  mix = mix_same_mix hp (mix_flip (mix_same_first hb (mix_flip (mix_same_first ha on.mix))));
-}
+-- each of the three points by another triple of it
+module _ {a a' b b' p p' : Point} (ha : IsSamePoint a a') (hb : IsSamePoint b b') (hp : IsSamePoint p p') where
+  mix_same : {s t : ℤ} → IsMix a b p s t → IsMix a' b' p' (((s *ℤ a.w) *ℤ b'.w) *ℤ p'.w) (((t *ℤ a'.w) *ℤ b.w) *ℤ p'.w)
+  mix_same m = mix_same_mix hp (mix_flip (mix_same_first hb (mix_flip (mix_same_first ha m))))
 
-pub between_same : {a a' b b' p p' : Point} → IsSamePoint a a' → IsSamePoint b b' → IsSamePoint p p' → IsStrictlyBetween a b p
-    → IsStrictlyBetween a' b' p'
-between_same {a} {a'} {b} {b'} {p} {p'} ha hb hp on = record {
-  s = ((on.s *ℤ a.w) *ℤ b'.w) *ℤ p'.w;
-  t = ((on.t *ℤ a'.w) *ℤ b.w) *ℤ p'.w;
-  mix = mix_same_mix hp (mix_flip (mix_same_first hb (mix_flip (mix_same_first ha on.mix))));
-  some_first = pos-*-pos (pos-*-pos (pos-*-pos on.some_first a.heavy) b'.heavy) p'.heavy;
-  some_second = pos-*-pos (pos-*-pos (pos-*-pos on.some_second a'.heavy) b.heavy) p'.heavy;
-  apart = λ e. on.apart (same_trans ha (same_trans e (same_sym hb)));
-}
+  pub segment_same : IsOnSegment a b p → IsOnSegment a' b' p'
+  segment_same on = record { s = ((on.s *ℤ a.w) *ℤ b'.w) *ℤ p'.w; t = ((on.t *ℤ a'.w) *ℤ b.w) *ℤ p'.w; mix = mix_same on.mix }
+
+  pub between_same : IsStrictlyBetween a b p → IsStrictlyBetween a' b' p'
+  between_same on = record {
+    s = ((on.s *ℤ a.w) *ℤ b'.w) *ℤ p'.w;
+    t = ((on.t *ℤ a'.w) *ℤ b.w) *ℤ p'.w;
+    mix = mix_same on.mix;
+    some_first = pos-*-pos (pos-*-pos (pos-*-pos on.some_first a.heavy) b'.heavy) p'.heavy;
+    some_second = pos-*-pos (pos-*-pos (pos-*-pos on.some_second a'.heavy) b.heavy) p'.heavy;
+    apart = λ e. on.apart (same_trans ha (same_trans e (same_sym hb)));
+  }
 
 -- ---- three points
 three_turned : (x y z : ℤ) → (x +ℤ y) +ℤ z ≡ (y +ℤ z) +ℤ x

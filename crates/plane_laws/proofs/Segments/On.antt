@@ -91,42 +91,38 @@ parts_of_way k s t d u v some hs ht e f = by_lt_z d (pos 0)
 
 -- ---- from the steps to a mix
 -- p is on the line of a and b, at the steps u from a and v to b of the way d
-record AreSteps (a b p : Point) (d u v : ℤ) : Type 0 where
-  across : d *ℤ p.x ≡ v *ℤ a.x +ℤ u *ℤ b.x
-  above : d *ℤ p.y ≡ v *ℤ a.y +ℤ u *ℤ b.y
-  mass : d *ℤ p.w ≡ v *ℤ a.w +ℤ u *ℤ b.w
+pub record AreSteps (a b p : Point) (d u v : ℤ) : Type 0 where
+  pub across : d *ℤ p.x ≡ v *ℤ a.x +ℤ u *ℤ b.x
+  pub above : d *ℤ p.y ≡ v *ℤ a.y +ℤ u *ℤ b.y
+  pub mass : d *ℤ p.w ≡ v *ℤ a.w +ℤ u *ℤ b.w
 
-shifts_are_steps : (a b p : Point) → turn a b p ≡ pos 0 → AreSteps a b p (shift a b) (shift a p) (shift p b)
-unfolding turn shift
-shifts_are_steps a b p e =
+-- the steps across and up of a point of the line
+pub are_steps : (a b p : Point) → turn a b p ≡ pos 0
+    → AreSteps a b p (shift a b) (shift a p) (shift p b) × AreSteps a b p (rise a b) (rise a p) (rise p b)
+unfolding turn shift rise
+are_steps a b p e =
     let pa = point_at 0 in
     let pb = point_at 3 in
     let pp = point_at 6 in
     let vs = a then b then p then [] in
+    let level = same (turn_poly pa pb pp) (num (pos 0)) e in
     let d = pb.x ⊗ pa.w ⊖ pa.x ⊗ pb.w in
     let u = pp.x ⊗ pa.w ⊖ pa.x ⊗ pp.w in
     let v = pb.x ⊗ pp.w ⊖ pp.x ⊗ pb.w in
-    record {
-      across = identity (d ⊗ pp.x) (v ⊗ pa.x ⊕ u ⊗ pb.x) vs refl;
-      above = same_from (d ⊗ pp.y) (v ⊗ pa.y ⊕ u ⊗ pb.y) vs (same (turn_poly pa pb pp) (num (pos 0)) e) refl;
-      mass = identity (d ⊗ pp.w) (v ⊗ pa.w ⊕ u ⊗ pb.w) vs refl;
-    }
-
-rises_are_steps : (a b p : Point) → turn a b p ≡ pos 0 → AreSteps a b p (rise a b) (rise a p) (rise p b)
-unfolding turn rise
-rises_are_steps a b p e =
-    let pa = point_at 0 in
-    let pb = point_at 3 in
-    let pp = point_at 6 in
-    let vs = a then b then p then [] in
-    let d = pb.y ⊗ pa.w ⊖ pa.y ⊗ pb.w in
-    let u = pp.y ⊗ pa.w ⊖ pa.y ⊗ pp.w in
-    let v = pb.y ⊗ pp.w ⊖ pp.y ⊗ pb.w in
-    record {
-      across = same_from (d ⊗ pp.x) (v ⊗ pa.x ⊕ u ⊗ pb.x) vs (scaled (num (negsuc 0)) (same (turn_poly pa pb pp) (num (pos 0)) e)) refl;
-      above = identity (d ⊗ pp.y) (v ⊗ pa.y ⊕ u ⊗ pb.y) vs refl;
-      mass = identity (d ⊗ pp.w) (v ⊗ pa.w ⊕ u ⊗ pb.w) vs refl;
-    }
+    let d' = pb.y ⊗ pa.w ⊖ pa.y ⊗ pb.w in
+    let u' = pp.y ⊗ pa.w ⊖ pa.y ⊗ pp.w in
+    let v' = pb.y ⊗ pp.w ⊖ pp.y ⊗ pb.w in (
+      record {
+        across = identity (d ⊗ pp.x) (v ⊗ pa.x ⊕ u ⊗ pb.x) vs refl;
+        above = same_from (d ⊗ pp.y) (v ⊗ pa.y ⊕ u ⊗ pb.y) vs level refl;
+        mass = identity (d ⊗ pp.w) (v ⊗ pa.w ⊕ u ⊗ pb.w) vs refl;
+      },
+      record {
+        across = same_from (d' ⊗ pp.x) (v' ⊗ pa.x ⊕ u' ⊗ pb.x) vs (scaled (num (negsuc 0)) level) refl;
+        above = identity (d' ⊗ pp.y) (v' ⊗ pa.y ⊕ u' ⊗ pb.y) vs refl;
+        mass = identity (d' ⊗ pp.w) (v' ⊗ pa.w ⊕ u' ⊗ pb.w) vs refl;
+      },
+    )
 
 turned_step : (d p v a u b : ℤ) → d *ℤ p ≡ v *ℤ a +ℤ u *ℤ b → neg_ℤ d *ℤ p ≡ neg_ℤ v *ℤ a +ℤ neg_ℤ u *ℤ b
 turned_step d p v a u b h =
@@ -148,23 +144,17 @@ whole_way : {a b p : Point} {d u v : ℤ} → AreSteps a b p d u v → pos 0 ≤
 whole_way {a} {b} {p} {d} {u} {v} st hu hv =
     nonneg_factor p.w d p.heavy (subst (λ z. pos 0 ≤ℤ z) (sym st.mass ∙ *ℤ_comm d p.w) (sum_of_parts hu hv a.heavy b.heavy))
 
-forward : {a b p : Point} {d u v : ℤ} → AreSteps a b p d u v → ¬ (d ≡ pos 0) → pos 0 ≤ℤ u → pos 0 ≤ℤ v → IsOnSegment a b p
-forward {a} {b} {p} {d} {u} {v} st moves hu hv = record {
-  s = v;
-  t = u;
-  mix = record {
-    first = hv;
-    second = hu;
-    times = d;
-    some = by_sign d (λ h. absurd (clash h (whole_way st hu hv))) (λ e. absurd (moves e)) (λ h. h);
-    across = st.across;
-    above = st.above;
-    mass = st.mass;
-  };
-}
+pub forward : {a b p : Point} {d u v : ℤ} → AreSteps a b p d u v → ¬ (d ≡ pos 0) → pos 0 ≤ℤ u → pos 0 ≤ℤ v → IsOnSegment a b p
+forward {a} {b} {p} {d} {u} {v} st moves hu hv = record { s = v; t = u; mix = mix }
   where
     clash : d <ℤ pos 0 → pos 0 ≤ℤ d → ⊥
     clash h k = omega (arith, linear, h, k)
+
+    some : pos 0 <ℤ d
+    some = by_sign d (λ h. absurd (clash h (whole_way st hu hv))) (λ e. absurd (moves e)) (λ h. h)
+
+    mix : IsMix a b p v u
+    mix = record { first = hv; second = hu; times = d; some = some; across = st.across; above = st.above; mass = st.mass }
 
 segment_from_steps : {a b p : Point} {d u v : ℤ} → AreSteps a b p d u v → ¬ (d ≡ pos 0) → IsSameWay u v → IsOnSegment a b p
 segment_from_steps st moves (inl h) = forward st moves h.0 h.1
@@ -192,8 +182,8 @@ same_from_steps a p e f = record { across = omega (arith, linear, e); above = om
 pub on_from_steps : (a b p : Point) → turn a b p ≡ pos 0 → IsSameWay (shift a p) (shift p b) → IsSameWay (rise a p) (rise p b)
     → IsOnSegment a b p
 on_from_steps a b p e across above =
-    let shifts = shifts_are_steps a b p e in
-    let rises = rises_are_steps a b p e in
+    let shifts = (are_steps a b p e).0 in
+    let rises = (are_steps a b p e).1 in
     by_zero (shift a b)
     (λ none. by_zero (rise a b)
     (λ nothing. segment_same (same_refl a) (same_refl b)

@@ -18,33 +18,29 @@ use Rattle.whole_algebra.proofs.Comparisons.{greater_int_cmp, int_cmp_less, int_
 use Rattle.plane_laws.proofs.Points.Order.{IsBefore-from, IsBefore-gives, compare_fractions-trans, compare_fractions-congr, compare_points_same, same_compare_points}
 use Rattle.plane_laws.proofs.Segments.Onto.{shift_p}
 
+-- how far the second of two mixes is ahead of the first, in one of the coordinates
+ahead_by : (a v b w m x n y s t u z k l : ℤ) → k *ℤ m ≡ s *ℤ a +ℤ t *ℤ b → k *ℤ x ≡ s *ℤ v +ℤ t *ℤ w → l *ℤ n ≡ u *ℤ a +ℤ z *ℤ b
+    → l *ℤ y ≡ u *ℤ v +ℤ z *ℤ w → (k *ℤ l) *ℤ (n *ℤ x -ℤ m *ℤ y) ≡ (s *ℤ z -ℤ t *ℤ u) *ℤ (b *ℤ v -ℤ a *ℤ w)
+ahead_by a v b w m x n y s t u z k l f_m f_x g_n g_y =
+    let vs = a ∷ v ∷ b ∷ w ∷ m ∷ x ∷ n ∷ y ∷ s ∷ t ∷ u ∷ z ∷ k ∷ l ∷ [] in
+    let first = var 8 ⊗ var 0 ⊕ var 9 ⊗ var 2 in
+    let second = var 10 ⊗ var 0 ⊕ var 11 ⊗ var 2 in
+    same_from ((var 12 ⊗ var 13) ⊗ (var 6 ⊗ var 5 ⊖ var 4 ⊗ var 7))
+    ((var 8 ⊗ var 11 ⊖ var 9 ⊗ var 10) ⊗ shift_p (var 0) (var 1) (var 2) (var 3)) vs
+    (scaled (var 12 ⊗ var 5) (same (var 13 ⊗ var 6) second g_n)
+    ⊞ scaled second (same (var 12 ⊗ var 5) (var 8 ⊗ var 1 ⊕ var 9 ⊗ var 3) f_x)
+    ⊞ scaled (minus (var 13 ⊗ var 7)) (same (var 12 ⊗ var 4) first f_m)
+    ⊞ scaled (minus first) (same (var 13 ⊗ var 7) (var 10 ⊗ var 1 ⊕ var 11 ⊗ var 3) g_y)) refl
+
 -- two mixes: how far the second is ahead of the first, in terms of the weights
 module _ (a b m n : Point) (s t u v : ℤ) (f : IsMix a b m s t) (g : IsMix a b n u v) where
   ahead_across : (f.times *ℤ g.times) *ℤ (n.x *ℤ m.w -ℤ m.x *ℤ n.w) ≡ (s *ℤ v -ℤ t *ℤ u) *ℤ shift a b
   unfolding shift
-  ahead_across =
-      let vs = a.x ∷ a.w ∷ b.x ∷ b.w ∷ m.x ∷ m.w ∷ n.x ∷ n.w ∷ s ∷ t ∷ u ∷ v ∷ f.times ∷ g.times ∷ [] in
-      let first = var 8 ⊗ var 0 ⊕ var 9 ⊗ var 2 in
-      let second = var 10 ⊗ var 0 ⊕ var 11 ⊗ var 2 in
-      same_from ((var 12 ⊗ var 13) ⊗ (var 6 ⊗ var 5 ⊖ var 4 ⊗ var 7))
-      ((var 8 ⊗ var 11 ⊖ var 9 ⊗ var 10) ⊗ shift_p (var 0) (var 1) (var 2) (var 3)) vs
-      (scaled (var 12 ⊗ var 5) (same (var 13 ⊗ var 6) second g.across)
-      ⊞ scaled second (same (var 12 ⊗ var 5) (var 8 ⊗ var 1 ⊕ var 9 ⊗ var 3) f.mass)
-      ⊞ scaled (minus (var 13 ⊗ var 7)) (same (var 12 ⊗ var 4) first f.across)
-      ⊞ scaled (minus first) (same (var 13 ⊗ var 7) (var 10 ⊗ var 1 ⊕ var 11 ⊗ var 3) g.mass)) refl
+  ahead_across = ahead_by a.x a.w b.x b.w m.x m.w n.x n.w s t u v f.times g.times f.across f.mass g.across g.mass
 
   ahead_above : (f.times *ℤ g.times) *ℤ (n.y *ℤ m.w -ℤ m.y *ℤ n.w) ≡ (s *ℤ v -ℤ t *ℤ u) *ℤ rise a b
   unfolding rise
-  ahead_above =
-      let vs = a.y ∷ a.w ∷ b.y ∷ b.w ∷ m.y ∷ m.w ∷ n.y ∷ n.w ∷ s ∷ t ∷ u ∷ v ∷ f.times ∷ g.times ∷ [] in
-      let first = var 8 ⊗ var 0 ⊕ var 9 ⊗ var 2 in
-      let second = var 10 ⊗ var 0 ⊕ var 11 ⊗ var 2 in
-      same_from ((var 12 ⊗ var 13) ⊗ (var 6 ⊗ var 5 ⊖ var 4 ⊗ var 7))
-      ((var 8 ⊗ var 11 ⊖ var 9 ⊗ var 10) ⊗ shift_p (var 0) (var 1) (var 2) (var 3)) vs
-      (scaled (var 12 ⊗ var 5) (same (var 13 ⊗ var 6) second g.above)
-      ⊞ scaled second (same (var 12 ⊗ var 5) (var 8 ⊗ var 1 ⊕ var 9 ⊗ var 3) f.mass)
-      ⊞ scaled (minus (var 13 ⊗ var 7)) (same (var 12 ⊗ var 4) first f.above)
-      ⊞ scaled (minus first) (same (var 13 ⊗ var 7) (var 10 ⊗ var 1 ⊕ var 11 ⊗ var 3) g.mass)) refl
+  ahead_above = ahead_by a.y a.w b.y b.w m.y m.w n.y n.w s t u v f.times g.times f.above f.mass g.above g.mass
 
   ahead_along : (f.times *ℤ g.times) *ℤ (along a b n *ℤ m.w -ℤ along a b m *ℤ n.w) ≡ (s *ℤ v -ℤ t *ℤ u) *ℤ
       (a.w *ℤ (shift a b *ℤ shift a b +ℤ rise a b *ℤ rise a b))

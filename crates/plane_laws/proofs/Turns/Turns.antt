@@ -154,19 +154,20 @@ gap_same_second a v b w b' w' h =
     same_from ((var 2 ⊗ var 1 ⊖ var 0 ⊗ var 3) ⊗ var 5) ((var 4 ⊗ var 1 ⊖ var 0 ⊗ var 5) ⊗ var 3) vs
     (scaled (var 1) (same (var 2 ⊗ var 5) (var 4 ⊗ var 3) h)) refl
 
+-- the same of both points
+gap_same : (a v a' v' b w b' w' : ℤ) → pos 0 <ℤ v → pos 0 <ℤ v' → pos 0 <ℤ w → pos 0 <ℤ w' → a *ℤ v' ≡ a' *ℤ v
+    → b *ℤ w' ≡ b' *ℤ w → OneSign (b *ℤ v -ℤ a *ℤ w) (b' *ℤ v' -ℤ a' *ℤ w')
+gap_same a v a' v' b w b' w' hv hv' hw hw' e f =
+    OneSign-trans (record { m = v'; n = v; some_m = hv'; some_n = hv; level = gap_same_first a v a' v' b w e })
+    (record { m = w'; n = w; some_m = hw'; some_n = hw; level = gap_same_second a' v' b w b' w' f })
+
 pub shift_same : {a a' b b' : Point} → IsSamePoint a a' → IsSamePoint b b' → OneSign (shift a b) (shift a' b')
 unfolding shift
-shift_same {a} {a'} {b} {b'} ha hb =
-    OneSign-trans (record
-    { m = a'.w; n = a.w; some_m = a'.heavy; some_n = a.heavy; level = gap_same_first a.x a.w a'.x a'.w b.x b.w ha.across })
-    (record { m = b'.w; n = b.w; some_m = b'.heavy; some_n = b.heavy; level = gap_same_second a'.x a'.w b.x b.w b'.x b'.w hb.across })
+shift_same {a} {a'} {b} {b'} ha hb = gap_same a.x a.w a'.x a'.w b.x b.w b'.x b'.w a.heavy a'.heavy b.heavy b'.heavy ha.across hb.across
 
 pub rise_same : {a a' b b' : Point} → IsSamePoint a a' → IsSamePoint b b' → OneSign (rise a b) (rise a' b')
 unfolding rise
-rise_same {a} {a'} {b} {b'} ha hb =
-    OneSign-trans (record
-    { m = a'.w; n = a.w; some_m = a'.heavy; some_n = a.heavy; level = gap_same_first a.y a.w a'.y a'.w b.y b.w ha.above })
-    (record { m = b'.w; n = b.w; some_m = b'.heavy; some_n = b.heavy; level = gap_same_second a'.y a'.w b.y b.w b'.y b'.w hb.above })
+rise_same {a} {a'} {b} {b'} ha hb = gap_same a.y a.w a'.y a'.w b.y b.w b'.y b'.w a.heavy a'.heavy b.heavy b'.heavy ha.above hb.above
 
 -- points of which two are the same are on one line
 pub turn_of_same : (c : Point) {a b : Point} → IsSamePoint a b → turn a b c ≡ pos 0

@@ -20,7 +20,7 @@ use Rattle.point_set.specs.Rings.{is_on_edge, is_on_edges}
 use Rattle.plane_laws.specs.Along.{IsAway, IsInCone}
 use Rattle.ring_laws.proofs.Parity.Ring.{Misses}
 use Rattle.ring_laws.proofs.Room.Edges.{HoldBoth, room}
-use Rattle.plane_laws.proofs.Near.Near.{near_mix, shift_mix, rise_mix}
+use Rattle.plane_laws.proofs.Near.Near.{IsNear, near_mix, shift_mix, rise_mix}
 use Rattle.plane_laws.proofs.Near.Away.{away_near, far_for, between_in_cone, some_weight}
 
 -- ---- where a point of an edge through v lies between two directions, so does one of the edge's ends
@@ -31,6 +31,19 @@ shift_self v = omega (arith, linear)
 pub rise_self : (v : Point) → rise v v ≡ pos 0
 unfolding rise
 rise_self v = omega (arith, linear)
+
+-- a point is near itself
+pub near_self : (v : Point) (n : ℕ) → IsNear v n v
+near_self v n =
+    let still_x : pos n *ℤ shift v v ≡ pos 0 = ap (λ z. pos n *ℤ z) (shift_self v) ∙ *ℤ-zero (pos n) in
+    let still_y : pos n *ℤ rise v v ≡ pos 0 = ap (λ z. pos n *ℤ z) (rise_self v) ∙ *ℤ-zero (pos n) in
+    let heavy : pos 0 <ℤ (v.w *ℤ v.w) = pos-*-pos v.heavy v.heavy in
+    record {
+      left = omega (arith, linear, still_x, heavy);
+      right = omega (arith, linear, still_x, heavy);
+      bottom = omega (arith, linear, still_y, heavy);
+      top = omega (arith, linear, still_y, heavy);
+    }
 
 -- the edge's weights of v are s and t, those of m are u and w; x and y are the steps from v to the ends, z is that to m
 to_first : (s t u w k x y z c r : ℤ) → (s *ℤ x) +ℤ (t *ℤ y) ≡ pos 0 → k *ℤ z ≡ (u *ℤ x) +ℤ (w *ℤ y) → c *ℤ z ≡ r
@@ -74,6 +87,21 @@ longer {v} {d} {e} {m} c a more f hm hf across above = record {
     grown f i j hf h =
         less_by (num (pos 0)) (var 0 ⊗ var 1 ⊕ var 0 ⊗ var 2) (f ∷ i ∷ j ∷ [])
         (λ denied. denied ⊞ positive (var 0) hf ⊠ positive (var 1 ⊕ var 2) h) refl
+
+-- a point to which the steps are those to a point between two directions lies between them
+pub cone_moved : {v : Point} {d e : Direction} {p q : Point} (c : IsInCone v d e p) → c.times *ℤ shift v q ≡ (c.i *ℤ d.x) +ℤ (c.j *ℤ e.x)
+    → c.times *ℤ rise v q ≡ (c.i *ℤ d.y) +ℤ (c.j *ℤ e.y) → IsInCone v d e q
+cone_moved c across above = record {
+  i = c.i;
+  j = c.j;
+  first = c.first;
+  second = c.second;
+  some = c.some;
+  times = c.times;
+  positive = c.positive;
+  across = across;
+  above = above;
+}
 
 -- neither end of the edge lies between the directions
 pub record AreEndsClear (v : Point) (d e : Direction) (a b : Point) : Type 0 where
@@ -133,33 +161,20 @@ ends_decide v d e a b m pointed on_v on_m clear c = by_sign turned (λ h. clear.
     none_right : (c x : ℤ) → turned ≡ pos 0 → (neg_ℤ turned *ℤ c) *ℤ x ≡ pos 0
     none_right c x z = ap (λ y. (neg_ℤ y *ℤ c) *ℤ x) z ∙ ap (λ y. y *ℤ x) (zero-*ℤ c) ∙ zero-*ℤ x
 
+    -- where both ends give the cone no weight, a coordinate of its way is 0
+    none_at : turned ≡ pos 0 → (x y z r : ℤ) → (on_v.s *ℤ x) +ℤ (on_v.t *ℤ y) ≡ pos 0
+        → on_m.mix.times *ℤ z ≡ (on_m.s *ℤ x) +ℤ (on_m.t *ℤ y) → c.times *ℤ z ≡ r → r ≡ pos 0
+    none_at level x y z r still mixed step =
+        none_by on_v.s on_v.t on_m.mix.times r on_v.mix.first on_v.mix.second (some_weight on_v.mix) on_m.mix.some
+        (sym (to_second on_v.s on_v.t on_m.s on_m.t on_m.mix.times x y z c.times r still mixed step) ∙ none_right c.times y level)
+        (sym (to_first on_v.s on_v.t on_m.s on_m.t on_m.mix.times x y z c.times r still mixed step) ∙ none_left c.times x level)
+
     at_v : turned ≡ pos 0 → IsInCone v d e v
     at_v z =
-        let r_x = (c.i *ℤ d.x) +ℤ (c.j *ℤ e.x) in
-        let r_y = (c.i *ℤ d.y) +ℤ (c.j *ℤ e.y) in
-        let zero_x : r_x ≡ pos 0 = none_by on_v.s on_v.t on_m.mix.times r_x on_v.mix.first on_v.mix.second
-        (some_weight on_v.mix) on_m.mix.some
-        (sym (to_second on_v.s on_v.t on_m.s on_m.t on_m.mix.times (shift v a) (shift v b) (shift v m) c.times r_x still_x
-        (shift_mix v on_m.mix) c.across) ∙ none_right c.times (shift v b) z)
-        (sym (to_first on_v.s on_v.t on_m.s on_m.t on_m.mix.times (shift v a) (shift v b) (shift v m) c.times r_x still_x
-        (shift_mix v on_m.mix) c.across) ∙ none_left c.times (shift v a) z) in
-        let zero_y : r_y ≡ pos 0 = none_by on_v.s on_v.t on_m.mix.times r_y on_v.mix.first on_v.mix.second
-        (some_weight on_v.mix) on_m.mix.some
-        (sym (to_second on_v.s on_v.t on_m.s on_m.t on_m.mix.times (rise v a) (rise v b) (rise v m) c.times r_y still_y
-        (rise_mix v on_m.mix) c.above) ∙ none_right c.times (rise v b) z)
-        (sym (to_first on_v.s on_v.t on_m.s on_m.t on_m.mix.times (rise v a) (rise v b) (rise v m) c.times r_y still_y
-        (rise_mix v on_m.mix) c.above) ∙ none_left c.times (rise v a) z) in
-        record {
-          i = c.i;
-          j = c.j;
-          first = c.first;
-          second = c.second;
-          some = c.some;
-          times = c.times;
-          positive = c.positive;
-          across = ap (λ y. c.times *ℤ y) (shift_self v) ∙ *ℤ-zero c.times ∙ sym zero_x;
-          above = ap (λ y. c.times *ℤ y) (rise_self v) ∙ *ℤ-zero c.times ∙ sym zero_y;
-        }
+        let zero_x = none_at z (shift v a) (shift v b) (shift v m) ((c.i *ℤ d.x) +ℤ (c.j *ℤ e.x)) still_x (shift_mix v on_m.mix) c.across in
+        let zero_y = none_at z (rise v a) (rise v b) (rise v m) ((c.i *ℤ d.y) +ℤ (c.j *ℤ e.y)) still_y (rise_mix v on_m.mix) c.above in
+        cone_moved c (ap (λ y. c.times *ℤ y) (shift_self v) ∙ *ℤ-zero c.times ∙ sym zero_x)
+        (ap (λ y. c.times *ℤ y) (rise_self v) ∙ *ℤ-zero c.times ∙ sym zero_y)
 
 -- a single direction has no way back
 pub direction_pointed : (v : Point) (d : Direction) → ¬ IsInCone v d d v

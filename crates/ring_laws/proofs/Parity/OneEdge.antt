@@ -8,7 +8,7 @@ use Rattle.whole_algebra.proofs.Laws.{linear, one-*ℤ, neg-*ℤ}
 use Rattle.whole_algebra.proofs.Polynomials.{Poly, var, num, ◌⊕◌, ◌⊖◌, ◌⊗◌, minus, identity}
 use Rattle.whole_algebra.proofs.Certificates.{natural, positive, at_most, same, less_by, whole, ◌⊞◌, ◌⊠◌}
 use Rattle.whole_algebra.proofs.Signs.{pos_factor, neg_factor, <ℤ_weaken, pos-*-pos, nonpos-*-nonneg}
-use Rattle.plane_laws.proofs.Segments.Mixes.{segment_flip}
+use Rattle.plane_laws.proofs.Segments.Mixes.{segment_flip, mix_of_sums}
 use Rattle.plane_laws.proofs.Turns.Turns.{PolyPoint, point_at, turn_poly, ◌then◌, turn_swap}
 use Rattle.plane_laws.specs.Plane.{Point, IsOnSegment, turn, rise}
 use Rattle.point_set.specs.Rings.{is_low, crosses_from, differ}
@@ -32,6 +32,31 @@ is_beside p q v = beside_by (is_low p v) (is_low q v) (turn p q v)
 abbrev pub rise_p : PolyPoint → PolyPoint → Poly
 rise_p a b = b.y ⊗ a.w ⊖ a.y ⊗ b.w
 
+-- four points as polynomials, and the turn of each with the two points of the other segment
+abbrev pa : PolyPoint
+pa = point_at 0
+
+abbrev pb : PolyPoint
+pb = point_at 3
+
+abbrev pp : PolyPoint
+pp = point_at 6
+
+abbrev pq : PolyPoint
+pq = point_at 9
+
+abbrev turn_of_a : Poly
+turn_of_a = turn_poly pp pq pa
+
+abbrev turn_of_b : Poly
+turn_of_b = turn_poly pp pq pb
+
+abbrev turn_of_p : Poly
+turn_of_p = turn_poly pa pb pp
+
+abbrev turn_of_q : Poly
+turn_of_q = turn_poly pa pb pq
+
 moved : (b : Bool) {P Q R S : Type 0} → (P → R) → (Q → S) → MatchBool b P Q → MatchBool b R S
 moved true f g h = f h
 moved false f g h = g h
@@ -42,23 +67,15 @@ tells_low p a =
     moved (int_le (a.y *ℤ p.w) (p.y *ℤ a.w)) (λ h. omega (arith, linear, h)) (λ h. omega (arith, linear, h))
     (tells_le (a.y *ℤ p.w) (p.y *ℤ a.w))
 
--- how much higher q is than p, from their heights and that of a third point
-pub level_by : (p q a : Point) → a.w *ℤ rise p q ≡ (q.w *ℤ rise p a) -ℤ (p.w *ℤ rise q a)
+-- how much higher b is than a, from their heights and that of a third point
+pub level_by : (a b p : Point) → p.w *ℤ rise a b ≡ (b.w *ℤ rise a p) -ℤ (a.w *ℤ rise b p)
 unfolding rise
-level_by p q a =
-    let pp = point_at 0 in
-    let pq = point_at 3 in
-    let pa = point_at 6 in
-    identity (pa.w ⊗ rise_p pp pq) (pq.w ⊗ rise_p pp pa ⊖ pp.w ⊗ rise_p pq pa) (p then q then a then []) refl
+level_by a b p = identity (pp.w ⊗ rise_p pa pb) (pb.w ⊗ rise_p pa pp ⊖ pa.w ⊗ rise_p pb pp) (a then b then p then []) refl
 
 -- how much higher b is than a, from their heights above p
 edge_by : (a b p : Point) → p.w *ℤ rise a b ≡ (a.w *ℤ rise p b) -ℤ (b.w *ℤ rise p a)
 unfolding rise
-edge_by a b p =
-    let pa = point_at 0 in
-    let pb = point_at 3 in
-    let pp = point_at 6 in
-    identity (pp.w ⊗ rise_p pa pb) (pa.w ⊗ rise_p pp pb ⊖ pb.w ⊗ rise_p pp pa) (a then b then p then []) refl
+edge_by a b p = identity (pp.w ⊗ rise_p pa pb) (pa.w ⊗ rise_p pp pb ⊖ pb.w ⊗ rise_p pp pa) (a then b then p then []) refl
 
 rising : (k h u x v y : ℤ) → k *ℤ h ≡ (u *ℤ x) -ℤ (v *ℤ y) → pos 0 <ℤ k → pos 0 <ℤ u → pos 0 <ℤ v → pos 0 <ℤ x → y ≤ℤ pos 0 → pos 0 <ℤ h
 rising k h u x v y e hk hu hv hx hy =
@@ -74,54 +91,28 @@ low_stays p q a level ha ka =
     let down : rise p q <ℤ pos 0 = falling a.w (rise p q) q.w (rise p a) p.w (rise q a) (level_by p q a) a.heavy q.heavy p.heavy ha ka in
     omega (arith, linear, down, level)
 
-heights_of_p : (a b p q : Point) → turn a b p *ℤ rise p q ≡ (turn p q b *ℤ rise p a) -ℤ (turn p q a *ℤ rise p b)
+-- how the turns of the four points go with their heights
+turns_by_heights : (a b p q : Point) → (turn a b p *ℤ rise p q ≡ (turn p q b *ℤ rise p a) -ℤ (turn p q a *ℤ rise p b))
+    × (turn a b q *ℤ rise p q ≡ (turn p q b *ℤ rise q a) -ℤ (turn p q a *ℤ rise q b))
+    × (turn p q a *ℤ rise a b ≡ (turn a b p *ℤ rise q a) -ℤ (turn a b q *ℤ rise p a))
+    × (turn p q b *ℤ rise a b ≡ (turn a b p *ℤ rise q b) -ℤ (turn a b q *ℤ rise p b))
 unfolding turn rise
-heights_of_p a b p q =
-    let pa = point_at 0 in
-    let pb = point_at 3 in
-    let pp = point_at 6 in
-    let pq = point_at 9 in
-    identity (turn_poly pa pb pp ⊗ rise_p pp pq) (turn_poly pp pq pb ⊗ rise_p pp pa ⊖ turn_poly pp pq pa ⊗ rise_p pp pb)
-    (a then b then p then q then []) refl
-
-heights_of_q : (a b p q : Point) → turn a b q *ℤ rise p q ≡ (turn p q b *ℤ rise q a) -ℤ (turn p q a *ℤ rise q b)
-unfolding turn rise
-heights_of_q a b p q =
-    let pa = point_at 0 in
-    let pb = point_at 3 in
-    let pp = point_at 6 in
-    let pq = point_at 9 in
-    identity (turn_poly pa pb pq ⊗ rise_p pp pq) (turn_poly pp pq pb ⊗ rise_p pq pa ⊖ turn_poly pp pq pa ⊗ rise_p pq pb)
-    (a then b then p then q then []) refl
-
-heights_of_a : (a b p q : Point) → turn p q a *ℤ rise a b ≡ (turn a b p *ℤ rise q a) -ℤ (turn a b q *ℤ rise p a)
-unfolding turn rise
-heights_of_a a b p q =
-    let pa = point_at 0 in
-    let pb = point_at 3 in
-    let pp = point_at 6 in
-    let pq = point_at 9 in
-    identity (turn_poly pp pq pa ⊗ rise_p pa pb) (turn_poly pa pb pp ⊗ rise_p pq pa ⊖ turn_poly pa pb pq ⊗ rise_p pp pa)
-    (a then b then p then q then []) refl
-
-heights_of_b : (a b p q : Point) → turn p q b *ℤ rise a b ≡ (turn a b p *ℤ rise q b) -ℤ (turn a b q *ℤ rise p b)
-unfolding turn rise
-heights_of_b a b p q =
-    let pa = point_at 0 in
-    let pb = point_at 3 in
-    let pp = point_at 6 in
-    let pq = point_at 9 in
-    identity (turn_poly pp pq pb ⊗ rise_p pa pb) (turn_poly pa pb pp ⊗ rise_p pq pb ⊖ turn_poly pa pb pq ⊗ rise_p pp pb)
-    (a then b then p then q then []) refl
+turns_by_heights a b p q =
+    let vs = a then b then p then q then [] in (
+      identity (turn_of_p ⊗ rise_p pp pq) (turn_of_b ⊗ rise_p pp pa ⊖ turn_of_a ⊗ rise_p pp pb) vs refl,
+      identity (turn_of_q ⊗ rise_p pp pq) (turn_of_b ⊗ rise_p pq pa ⊖ turn_of_a ⊗ rise_p pq pb) vs refl,
+      identity (turn_of_a ⊗ rise_p pa pb) (turn_of_p ⊗ rise_p pq pa ⊖ turn_of_q ⊗ rise_p pp pa) vs refl,
+      identity (turn_of_b ⊗ rise_p pa pb) (turn_of_p ⊗ rise_p pq pb ⊖ turn_of_q ⊗ rise_p pp pb) vs refl,
+    )
 
 pub heights : (a b p q : Point) → pos 0 ≤ℤ rise p q → Heights (rise p a) (rise p b) (rise q a) (rise q b) (rise p q) (rise a b)
     (turn p q a) (turn p q b) (turn a b p) (turn a b q)
 heights a b p q level = record {
   level = level;
-  of_p = heights_of_p a b p q;
-  of_q = heights_of_q a b p q;
-  of_a = heights_of_a a b p q;
-  of_b = heights_of_b a b p q;
+  of_p = (turns_by_heights a b p q).0;
+  of_q = (turns_by_heights a b p q).1;
+  of_a = (turns_by_heights a b p q).2;
+  of_b = (turns_by_heights a b p q).3;
   rising_a = rising a.w (rise p q) q.w (rise p a) p.w (rise q a) (level_by p q a) a.heavy q.heavy p.heavy;
   rising_b = rising b.w (rise p q) q.w (rise p b) p.w (rise q b) (level_by p q b) b.heavy q.heavy p.heavy;
   rising_ab = λ h k. rising p.w (rise a b) a.w (rise p b) b.w (rise p a) (edge_by a b p) p.heavy a.heavy b.heavy k h;
@@ -138,19 +129,11 @@ record AreSums (a b p q : Point) (sa sb tp tq : ℤ) : Type 0 where
 sums : (a b p q : Point) → AreSums a b p q (turn p q a) (turn p q b) (turn a b p) (turn a b q)
 unfolding turn
 sums a b p q =
-    let pa = point_at 0 in
-    let pb = point_at 3 in
-    let pp = point_at 6 in
-    let pq = point_at 9 in
-    let sa = turn_poly pp pq pa in
-    let sb = turn_poly pp pq pb in
-    let tp = turn_poly pa pb pp in
-    let tq = turn_poly pa pb pq in
     let vs = a then b then p then q then [] in
     record {
-      across = identity (sb ⊗ pa.x ⊕ minus sa ⊗ pb.x) (minus tq ⊗ pp.x ⊕ tp ⊗ pq.x) vs refl;
-      above = identity (sb ⊗ pa.y ⊕ minus sa ⊗ pb.y) (minus tq ⊗ pp.y ⊕ tp ⊗ pq.y) vs refl;
-      mass = identity (sb ⊗ pa.w ⊕ minus sa ⊗ pb.w) (minus tq ⊗ pp.w ⊕ tp ⊗ pq.w) vs refl;
+      across = identity (turn_of_b ⊗ pa.x ⊕ minus turn_of_a ⊗ pb.x) (minus turn_of_q ⊗ pp.x ⊕ turn_of_p ⊗ pq.x) vs refl;
+      above = identity (turn_of_b ⊗ pa.y ⊕ minus turn_of_a ⊗ pb.y) (minus turn_of_q ⊗ pp.y ⊕ turn_of_p ⊗ pq.y) vs refl;
+      mass = identity (turn_of_b ⊗ pa.w ⊕ minus turn_of_a ⊗ pb.w) (minus turn_of_q ⊗ pp.w ⊕ turn_of_p ⊗ pq.w) vs refl;
     }
 
 heavy_mix : (sa sb tp tq a b p q : ℤ) → AreWeights sa sb tp tq → pos 0 <ℤ a → pos 0 <ℤ b → pos 0 <ℤ p → pos 0 <ℤ q
@@ -177,31 +160,12 @@ common : (a b p q : Point) → AreApart a b p q → {sa sb tp tq : ℤ} → AreS
 common a b p q apart {sa} {sb} {tp} {tq} e w =
     let m = sum_point a b sb (neg_ℤ sa) (heavy_mix sa sb tp tq a.w b.w p.w q.w w a.heavy b.heavy p.heavy q.heavy e.mass) in
     apart.none m
-    (record {
-      s = sb;
-      t = neg_ℤ sa;
-      mix = record {
-        first = w.second;
-        second = omega (arith, linear, w.first);
-        times = pos 1;
-        some = omega (arith, linear);
-        across = one-*ℤ m.x;
-        above = one-*ℤ m.y;
-        mass = one-*ℤ m.w;
-      };
-    })
+    (record { s = sb; t = neg_ℤ sa; mix = mix_of_sums w.second (omega (arith, linear, w.first)) (one-*ℤ m.x) (one-*ℤ m.y) (one-*ℤ m.w) })
     (record {
       s = neg_ℤ tq;
       t = tp;
-      mix = record {
-        first = omega (arith, linear, w.fourth);
-        second = w.third;
-        times = pos 1;
-        some = omega (arith, linear);
-        across = one-*ℤ m.x ∙ e.across;
-        above = one-*ℤ m.y ∙ e.above;
-        mass = one-*ℤ m.w ∙ e.mass;
-      };
+      mix = mix_of_sums (omega (arith, linear, w.fourth)) w.third
+          (one-*ℤ m.x ∙ e.across) (one-*ℤ m.y ∙ e.above) (one-*ℤ m.w ∙ e.mass);
     })
 
 turned_sum : (s t u v a b c d : ℤ) → (s *ℤ a) +ℤ (neg_ℤ t *ℤ b) ≡ (neg_ℤ u *ℤ c) +ℤ (v *ℤ d)

@@ -1,14 +1,11 @@
 -- The inside of an area lies on the hand of its shell's inside at the shell's edges, and on the other hand at a hole's edges.
-use Rattle.std.proofs.Common.{◌≡◌, ◌⊎◌, inl, inr, ℕ, zero, suc, ◌+◌, ◌<◌, pos, ◌*ℤ◌, ◌<ℤ◌, Bool, true, false, List, [], ◌∷◌, ◌++◌, ap, refl, sym, ◌∙◌, subst, arith}
+use Rattle.std.proofs.Common.{◌≡◌, ◌⊎◌, inl, inr, ℕ, zero, suc, ◌+◌, ◌<◌, Bool, true, false, List, [], ◌∷◌, ◌++◌, ap, refl, sym, ◌∙◌, subst, arith}
 use Rattle.std.specs.List.{list_any}
 use Rattle.std.specs.Prelude.{slice_get}
 use Rattle.std.proofs.lemmas.Bool.{or_parts, or_from, or_left, or_right, cases_eq, cases_order, false_from_ne_true}
-use lib.IntN.{*ℤ-zero}
 use Rattle.im_matrix.specs.declared.Loc.TheVariants.{Exterior}
-use Rattle.whole_algebra.proofs.Laws.{linear}
-use Rattle.whole_algebra.proofs.Signs.{pos-*-pos}
 use Rattle.plane_laws.proofs.Segments.Mixes.{on_from_strictly_between}
-use Rattle.plane_laws.specs.Plane.{Point, IsSamePoint, rise, shift}
+use Rattle.plane_laws.specs.Plane.{Point, IsSamePoint}
 use Rattle.plane_exact.specs.Places.{point_of}
 use Rattle.plane_laws.specs.Directions.{Direction}
 use Rattle.plane_exact.specs.declared.point.Pt.{Pt}
@@ -20,7 +17,7 @@ use Rattle.point_set.specs.declared.figure.Figure.{Figure}
 use Rattle.point_set.specs.Rings.{edges_of, is_on_edge, is_on_edges, is_inside}
 use Rattle.point_set.specs.Location.{location_by, rings_of, edges_of_rings}
 use Rattle.point_set.specs.Shape.{IsClosed, IsRingShaped, IsAreaShaped, IsWellShaped}
-use Rattle.point_set.specs.Validity.{IsAtPlace, IsOnEdge, RingsShareSegment, HasHoleOutside, HasHolesThatOverlap, IsValid, rings_share_edge, hole_outside, holes_overlap}
+use Rattle.point_set.specs.Validity.{IsAtPlace, IsOnEdge, ShareSegment, RingsShareSegment, HasHoleOutside, HasHolesThatOverlap, IsValid, rings_share_edge, hole_outside, holes_overlap}
 use Rattle.plane_laws.specs.Along.{IsAway, HoldsAlong}
 use Rattle.point_set.specs.Germ.{IsGerm}
 use Rattle.point_set.specs.Sides.{slope, PointsTo, other_hand, IsInsideHand}
@@ -31,25 +28,13 @@ use Rattle.figure_laws.proofs.Lists.Places.{some_same, all_at}
 use Rattle.plane_laws.proofs.Near.Near.{IsNear, near_mix}
 use Rattle.ring_laws.proofs.Room.Edges.{HoldBoth, HasRoom, room}
 use Rattle.plane_laws.proofs.Near.Away.{away_point, away_point_is, away_near, far_for}
-use Rattle.ring_laws.proofs.Germs.Edges.{shift_self, rise_self, on_true}
+use Rattle.ring_laws.proofs.Germs.Edges.{near_self, on_true}
 use Rattle.side_laws.proofs.Edges.Places.{off_by_places, off_edge}
 use Rattle.side_laws.proofs.Edges.Germ.{edge_turn, edge_turn_on}
 use Rattle.side_laws.proofs.Edges.Beside.{left_way, right_way, left_way_slope, right_way_slope, held_at, side_of}
 use Rattle.figure_laws.proofs.Lists.Places.{all_at}
 
 -- ---- near a point that is on no edge of a ring, all points are inside it or none is
-near_self : (v : Point) (n : ℕ) → IsNear v n v
-near_self v n =
-    let still_x : pos n *ℤ shift v v ≡ pos 0 = ap (λ z. pos n *ℤ z) (shift_self v) ∙ *ℤ-zero (pos n) in
-    let still_y : pos n *ℤ rise v v ≡ pos 0 = ap (λ z. pos n *ℤ z) (rise_self v) ∙ *ℤ-zero (pos n) in
-    let heavy : pos 0 <ℤ (v.w *ℤ v.w) = pos-*-pos v.heavy v.heavy in
-    record {
-      left = omega (arith, linear, still_x, heavy);
-      right = omega (arith, linear, still_x, heavy);
-      bottom = omega (arith, linear, still_y, heavy);
-      top = omega (arith, linear, still_y, heavy);
-    }
-
 none_held : (v m : Point) (edges : List Seg) → is_on_edges v edges ≡ false → HoldBoth v m edges → is_on_edges m edges ≡ false
 none_held v m [] off both = refl
 none_held v m (e ∷ edges) off both =
@@ -74,18 +59,18 @@ settled_off ring closed v off d =
 along_like : {P Q : Point → Type 0} {v : Point} {d : Direction} → ((q : Point) → P q → Q q) → HoldsAlong P v d → HoldsAlong Q v d
 along_like f h = record { from = h.from; holds = λ n far q away. f q (h.holds n far q away) }
 
-along_both : {P Q : Point → Type 0} {v : Point} {d : Direction} → HoldsAlong P v d → HoldsAlong Q v d → HoldsAlong (λ q. P q × Q q) v d
+pub along_both : {P Q : Point → Type 0} {v : Point} {d : Direction} → HoldsAlong P v d → HoldsAlong Q v d → HoldsAlong (λ q. P q × Q q) v d
 along_both h k = record {
   from = h.from + k.from;
   holds = λ n far q away. (h.holds n (omega (arith, far)) q away, k.holds n (omega (arith, far)) q away);
 }
 
 -- some point along it
-record HasPoint (P : Point → Type 0) : Type 0 where
-  q : Point
-  is : P q
+pub record HasPoint (P : Point → Type 0) : Type 0 where
+  pub q : Point
+  pub is : P q
 
-along_some : {P : Point → Type 0} {v : Point} {d : Direction} → HoldsAlong P v d → HasPoint P
+pub along_some : {P : Point → Type 0} {v : Point} {d : Direction} → HoldsAlong P v d → HasPoint P
 along_some {P} {v} {d} h = record
     { q = away_point v d h.from; is = h.holds (suc h.from) (omega arith) (away_point v d h.from) (away_point_is v d h.from) }
 
@@ -136,29 +121,32 @@ area_clean f shaped valid place area is = record {
   unlapped = λ h. valid place holes_overlap (record { area = area; area_is = is; is_so = h });
 }
 
--- two rings have no edge in common
+-- what one edge shares with another the other shares with it
+pub share_back : {e f : Seg} → ShareSegment e f → ShareSegment f e
+share_back h = record { a = h.a; b = h.b; apart = h.apart; held = λ p on. let both = h.held p on in (both.1, both.0) }
+
+-- two of its rings have no edges that share a segment
+pub rings_unshared : {area : Area} → ¬ RingsShareSegment area → (k l : ℕ) → k < l → (one other : List Pt) → IsAtPlace (rings_of area) k one
+    → IsAtPlace (rings_of area) l other → (i j : ℕ) (e f : Seg) → IsAtPlace (edges_of one) i e → IsAtPlace (edges_of other) j f
+    → ¬ ShareSegment e f
+rings_unshared unshared k l before one other one_is other_is i j e f e_is f_is share = unshared (record {
+  i = k;
+  j = l;
+  earlier = before;
+  one = one;
+  other = other;
+  one_is = one_is;
+  other_is = other_is;
+  share = record { i = i; j = j; e = e; f = f; e_is = e_is; f_is = f_is; share = share };
+})
+
+-- so they have no edge in common
 not_in_both : (area : Area) → ¬ RingsShareSegment area → (k l : ℕ) → k < l → (one other : List Pt) → IsAtPlace (rings_of area) k one
     → IsAtPlace (rings_of area) l other → (i j : ℕ) (e : Seg) → IsAtPlace (edges_of one) i e → IsAtPlace (edges_of other) j e
     → ¬ IsSamePoint (point_of e.a) (point_of e.b) → ⊥
 not_in_both area unshared k l before one other is_one is_other i j e is_i is_j apart =
-    unshared (record {
-      i = k;
-      j = l;
-      earlier = before;
-      one = one;
-      other = other;
-      one_is = is_one;
-      other_is = is_other;
-      share = record {
-        i = i;
-        j = j;
-        e = e;
-        f = e;
-        e_is = is_i;
-        f_is = is_j;
-        share = record { a = point_of e.a; b = point_of e.b; apart = apart; held = λ p on. (on, on) };
-      };
-    })
+    rings_unshared unshared k l before one other is_one is_other i j e e is_i is_j
+    (record { a = point_of e.a; b = point_of e.b; apart = apart; held = λ p on. (on, on) })
 
 -- an edge of the ring at a place, and a point of it that is on no other edge of the area
 record IsRingEdge (area : Area) (k : ℕ) (ring : List Pt) (i : ℕ) (e : Seg) (v : Point) : Type 0 where
@@ -225,11 +213,11 @@ clear_to : (side : Hand) {area : Area} {e : Seg} {v : Point} → IsOnEdgeAlone a
 clear_to side {area} {e} {v} one d to = let h = side_from side e d to in clear_beside h.s one d h.to
 
 -- some direction to a hand
-record HasWay (side : Hand) (e : Seg) : Type 0 where
-  d : Direction
-  to : PointsTo side e d
+pub record HasWay (side : Hand) (e : Seg) : Type 0 where
+  pub d : Direction
+  pub to : PointsTo side e d
 
-some_way : (side : Hand) → ¬ (side ≡ hand.Line) → (e : Seg) → ¬ IsSamePoint (point_of e.a) (point_of e.b) → HasWay side e
+pub some_way : (side : Hand) → ¬ (side ≡ hand.Line) → (e : Seg) → ¬ IsSamePoint (point_of e.a) (point_of e.b) → HasWay side e
 some_way hand.Left sided e apart = record { d = left_way e apart; to = left_way_slope e apart }
 some_way hand.Right sided e apart = record { d = right_way e apart; to = right_way_slope e apart }
 some_way hand.Line sided e apart = absurd (sided refl)
@@ -340,6 +328,22 @@ in_shell {area} {k} {hole} {i} {e} {v} {side} clean is inside at d =
         let some = hole_some inside at area.shell clean.shaped.shell.closed off in
         absurd (clean.within (record { i = k; hole = hole; hole_is = is; p = some.q; in_hole = some.is.1; off_shell = some.is.0 ∙ h }))
 
+-- no point is inside two holes
+holes_unlapped : {area : Area} → ¬ HasHolesThatOverlap area → (k l : ℕ) → k < l → (one other : List Pt) → IsAtPlace area.holes k one
+    → IsAtPlace area.holes l other → (p : Point) → is_inside p one ≡ true → ¬ (is_inside p other ≡ true)
+holes_unlapped unlapped k l before one other one_is other_is p in_one in_other = unlapped (record {
+  i = k;
+  one = one;
+  one_is = one_is;
+  j = l;
+  other = other;
+  other_is = other_is;
+  earlier = before;
+  p = p;
+  in_one = in_one;
+  in_other = in_other;
+})
+
 -- no other hole holds the point, since the insides of holes don't overlap
 in_no_other : {area : Area} {k : ℕ} {hole : List Pt} {i : ℕ} {e : Seg} {v : Point} {side : Hand} → AreRingsClean area
     → IsAtPlace area.holes k hole → IsInsideHand hole side → IsRingEdge area (suc k) hole i e v → (l : ℕ) (other : List Pt)
@@ -362,33 +366,9 @@ in_no_other {area} {k} {hole} {i} {e} {v} {side} clean is inside at l other is_o
             → is_inside some.q other ≡ true → (k ≡ l) ⊎ ((k < l) ⊎ (l < k)) → ⊥
         by_order some held (inl same) = differ same
         by_order some held (inr (inl before)) =
-            clean.unlapped (record {
-              i = k;
-              j = l;
-              earlier = before;
-              one = hole;
-              other = other;
-              one_is = is;
-              other_is = is_other;
-              p = some.q;
-              in_one =
-                  some.is.1;
-              in_other = held;
-            })
+            holes_unlapped clean.unlapped k l before hole other is is_other some.q some.is.1 held
         by_order some held (inr (inr after)) =
-            clean.unlapped (record {
-              i = l;
-              j = k;
-              earlier = after;
-              one = other;
-              other = hole;
-              one_is = is_other;
-              other_is = is;
-              p = some.q;
-              in_one =
-                  held;
-              in_other = some.is.1;
-            })
+            holes_unlapped clean.unlapped l k after other hole is_other is some.q held some.is.1
 
 pub hole_hand : (area : Area) → AreRingsClean area → (k : ℕ) (hole : List Pt) → IsAtPlace area.holes k hole → (side : Hand)
     → IsInsideHand hole side → (i : ℕ) (e : Seg) → IsAtPlace (edges_of hole) i e → IsAreaHand area e (other_hand side)

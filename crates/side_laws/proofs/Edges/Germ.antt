@@ -8,8 +8,8 @@ use Rattle.whole_algebra.proofs.Polynomials.{var, num, ◌⊕◌, ◌⊖◌, ◌
 use Rattle.whole_algebra.proofs.Certificates.{natural, positive, less, same, same_from, less_by, whole, scaled, ◌⊞◌, ◌⊠◌}
 use Rattle.whole_algebra.proofs.Signs.{pos_nonzero, pos-*-pos, zero_factor}
 use Rattle.plane_laws.proofs.Turns.Turns.{PolyPoint, point_at, turn_poly, ◌then◌, OneSign-zero, shift_same, rise_same}
-use Rattle.plane_laws.proofs.Segments.Mixes.{on_from_strictly_between}
-use Rattle.plane_laws.proofs.Segments.On.{Decides-is_on_segment, mix_turn, mix_shift_start, mix_shift_end, mix_rise_start, mix_rise_end, same_from_steps}
+use Rattle.plane_laws.proofs.Segments.Mixes.{on_from_strictly_between, mix_flip}
+use Rattle.plane_laws.proofs.Segments.On.{Decides-is_on_segment, mix_turn, mix_shift_start, mix_rise_start, same_from_steps}
 use Rattle.plane_laws.proofs.Points.Same.{same_refl, same_sym}
 use Rattle.plane_laws.specs.Plane.{Point, IsSamePoint, IsStrictlyBetween, turn, rise, shift}
 use Rattle.plane_exact.specs.Places.{point_of}
@@ -37,13 +37,18 @@ between_not_start {a} {b} {m} h same =
     (none_of_product h.mix.times h.t (rise a m) (rise a b) h.some_second (mix_rise_start h.mix)
     ((OneSign-zero (rise_same (same_refl a) (same_sym same))).1 (rise_self a))))
 
+pub between_flip : {a b m : Point} → IsStrictlyBetween a b m → IsStrictlyBetween b a m
+between_flip h = record {
+  s = h.t;
+  t = h.s;
+  mix = mix_flip h.mix;
+  some_first = h.some_second;
+  some_second = h.some_first;
+  apart = λ same. h.apart (same_sym same);
+}
+
 pub between_not_end : {a b m : Point} → IsStrictlyBetween a b m → ¬ IsSamePoint b m
-between_not_end {a} {b} {m} h same =
-    h.apart (same_from_steps a b
-    (none_of_product h.mix.times h.s (shift m b) (shift a b) h.some_first (mix_shift_end h.mix)
-    ((OneSign-zero (shift_same (same_sym same) (same_refl b))).1 (shift_self b)))
-    (none_of_product h.mix.times h.s (rise m b) (rise a b) h.some_first (mix_rise_end h.mix)
-    ((OneSign-zero (rise_same (same_sym same) (same_refl b))).1 (rise_self b))))
+between_not_end h = between_not_start (between_flip h)
 
 -- ---- the side of an edge's line on which a point is, from a point of the line
 unfoldable pub edge_turn : Seg → Point → ℤ

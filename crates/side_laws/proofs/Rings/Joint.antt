@@ -4,11 +4,11 @@ use Rattle.std.specs.Prelude.{slice_get}
 use Rattle.std.proofs.lemmas.Bool.{cases_eq, true≢false}
 use Rattle.std.proofs.Math.Bool.{not-not}
 use Rattle.whole_algebra.proofs.Laws.{linear}
-use Rattle.whole_algebra.proofs.Polynomials.{var, num, ◌⊕◌, ◌⊖◌, ◌⊗◌, minus, identity}
+use Rattle.whole_algebra.proofs.Polynomials.{Poly, var, num, ◌⊕◌, ◌⊖◌, ◌⊗◌, minus, identity}
 use Rattle.whole_algebra.proofs.Certificates.{same, scaled, positive, impossible_by, ◌⊞◌, ◌⊠◌}
 use Rattle.whole_algebra.proofs.Signs.{by_sign}
 use Rattle.plane_laws.proofs.Turns.Turns.{PolyPoint, turn_poly, turn_swap}
-use Rattle.plane_laws.proofs.Segments.Mixes.{on_from_strictly_between, mix_flip}
+use Rattle.plane_laws.proofs.Segments.Mixes.{on_from_strictly_between, mix_of_sums}
 use Rattle.plane_laws.proofs.Points.Same.{same_sym}
 use Rattle.plane_laws.specs.Plane.{Point, IsSamePoint, IsStrictlyBetween, turn, shift, rise}
 use Rattle.plane_exact.specs.Places.{point_of}
@@ -29,6 +29,7 @@ use Rattle.ring_laws.proofs.Germs.Edges.{cone_toward, cross_of, dot_of, squares}
 use Rattle.ring_laws.proofs.Germs.Areas.{toward_on}
 use Rattle.side_laws.proofs.Edges.Places.{IsSimple, alone_within, alone_at_joint, off_edge}
 use Rattle.side_laws.proofs.Edges.Germ.{edge_turn, edge_turn_on, between_not_start, between_not_end}
+pub use Rattle.side_laws.proofs.Edges.Germ.{between_flip}
 use Rattle.side_laws.proofs.Edges.Beside.{IsBesideAt, HasBesideAt, beside_at, by_hand, left_way, right_way, left_way_slope, right_way_slope, side_of, still}
 use Rattle.side_laws.proofs.Edges.Parted.{ArePartedFrom}
 use Rattle.side_laws.proofs.Edges.Strip.{IsBeyond, strip, beyond_by_places, carried_over, turn_between, along_edge}
@@ -154,15 +155,8 @@ unfolding way away_point
 near_start p q apart n some = record {
   s = pos (suc n) -ℤ pos 1;
   t = pos 1;
-  mix = record {
-    first = omega (arith, linear);
-    second = omega (arith, linear);
-    times = pos 1;
-    some = omega (arith, linear);
-    across = parts (pos (suc n)) p.x q.x;
-    above = parts (pos (suc n)) p.y q.y;
-    mass = ones (pos (suc n));
-  };
+  mix = mix_of_sums (omega (arith, linear)) (omega (arith, linear))
+      (parts (pos (suc n)) p.x q.x) (parts (pos (suc n)) p.y q.y) (ones (pos (suc n)));
   some_first = omega (arith, linear, some);
   some_second = omega (arith, linear);
   apart = apart;
@@ -176,40 +170,31 @@ near_start p q apart n some = record {
     ones : (n : ℤ) → pos 1 *ℤ (pos 1 *ℤ n) ≡ ((n -ℤ pos 1) *ℤ pos 1) +ℤ (pos 1 *ℤ pos 1)
     ones n = identity (num (pos 1) ⊗ (num (pos 1) ⊗ var 0)) ((var 0 ⊖ num (pos 1)) ⊗ num (pos 1) ⊕ num (pos 1) ⊗ num (pos 1)) (n ∷ []) refl
 
-pub between_flip : {a b m : Point} → IsStrictlyBetween a b m → IsStrictlyBetween b a m
-between_flip h = record {
-  s = h.t;
-  t = h.s;
-  mix = mix_flip h.mix;
-  some_first = h.some_second;
-  some_second = h.some_first;
-  apart = λ same. h.apart (same_sym same);
-}
-
+-- a position as polynomials, and the point near the second of three positions that lies towards one of the others
 abbrev position : ℕ → PolyPoint
 position n = record { x = var n; y = var (suc n); w = num (pos 1) }
+
+abbrev near_second : PolyPoint → PolyPoint
+near_second p =
+    let b = position 2 in
+    record { x = b.x ⊗ var 6 ⊕ (p.x ⊖ b.x) ⊗ num (pos 1); y = b.y ⊗ var 6 ⊕ (p.y ⊖ b.y) ⊗ num (pos 1); w = num (pos 1) ⊗ var 6 }
+
+abbrev turn_of_three : Poly
+turn_of_three = turn_poly (position 0) (position 2) (position 4)
 
 turn_before : (a b c : Pt) (apart : ¬ IsSamePoint (point_of b) (point_of a)) (n : ℕ)
     → edge_turn (seg b c) (away_point (point_of b) (way b a apart) n) ≡ turn (point_of a) (point_of b) (point_of c)
 unfolding edge_turn turn way away_point
 turn_before a b c apart n =
-    let pa = position 0 in
-    let pb = position 2 in
-    let pc = position 4 in
-    let pv : PolyPoint = record
-    { x = pb.x ⊗ var 6 ⊕ (pa.x ⊖ pb.x) ⊗ num (pos 1); y = pb.y ⊗ var 6 ⊕ (pa.y ⊖ pb.y) ⊗ num (pos 1); w = num (pos 1) ⊗ var 6 } in
-    identity (turn_poly pb pc pv) (turn_poly pa pb pc) (a.x ∷ a.y ∷ b.x ∷ b.y ∷ c.x ∷ c.y ∷ pos (suc n) ∷ []) refl
+    identity (turn_poly (position 2) (position 4) (near_second (position 0))) turn_of_three
+    (a.x ∷ a.y ∷ b.x ∷ b.y ∷ c.x ∷ c.y ∷ pos (suc n) ∷ []) refl
 
 turn_after : (a b c : Pt) (apart : ¬ IsSamePoint (point_of b) (point_of c)) (n : ℕ)
     → edge_turn (seg a b) (away_point (point_of b) (way b c apart) n) ≡ turn (point_of a) (point_of b) (point_of c)
 unfolding edge_turn turn way away_point
 turn_after a b c apart n =
-    let pa = position 0 in
-    let pb = position 2 in
-    let pc = position 4 in
-    let pv : PolyPoint = record
-    { x = pb.x ⊗ var 6 ⊕ (pc.x ⊖ pb.x) ⊗ num (pos 1); y = pb.y ⊗ var 6 ⊕ (pc.y ⊖ pb.y) ⊗ num (pos 1); w = num (pos 1) ⊗ var 6 } in
-    identity (turn_poly pa pb pv) (turn_poly pa pb pc) (a.x ∷ a.y ∷ b.x ∷ b.y ∷ c.x ∷ c.y ∷ pos (suc n) ∷ []) refl
+    identity (turn_poly (position 0) (position 2) (near_second (position 4))) turn_of_three
+    (a.x ∷ a.y ∷ b.x ∷ b.y ∷ c.x ∷ c.y ∷ pos (suc n) ∷ []) refl
 
 -- ---- two neighbours on one line go on the same way
 ahead : Pt → Pt → Pt → ℤ
@@ -218,10 +203,7 @@ ahead a b c = ((c.x -ℤ b.x) *ℤ (b.x -ℤ a.x)) +ℤ ((c.y -ℤ b.y) *ℤ (b.
 turn_cross : (a b c : Pt) → turn (point_of a) (point_of b) (point_of c) ≡ ((b.x -ℤ a.x) *ℤ (c.y -ℤ b.y)) -ℤ ((b.y -ℤ a.y) *ℤ (c.x -ℤ b.x))
 unfolding turn
 turn_cross a b c =
-    let pa = position 0 in
-    let pb = position 2 in
-    let pc = position 4 in
-    identity (turn_poly pa pb pc) ((pb.x ⊖ pa.x) ⊗ (pc.y ⊖ pb.y) ⊖ (pb.y ⊖ pa.y) ⊗ (pc.x ⊖ pb.x))
+    identity turn_of_three ((var 2 ⊖ var 0) ⊗ (var 5 ⊖ var 3) ⊖ (var 3 ⊖ var 1) ⊗ (var 4 ⊖ var 2))
     (a.x ∷ a.y ∷ b.x ∷ b.y ∷ c.x ∷ c.y ∷ []) refl
 
 no_turn_and_square {ℓ} : {P : Type ℓ} (u v x y : ℤ) → pos 0 <ℤ ((u *ℤ u) +ℤ (v *ℤ v)) → pos 0 <ℤ ((x *ℤ x) +ℤ (y *ℤ y))
@@ -266,18 +248,19 @@ none_ahead {P = P} a b c apart apart_f line none =
     no_turn_and_square {P = P} (b.x -ℤ a.x) (b.y -ℤ a.y) (c.x -ℤ b.x) (c.y -ℤ b.y) (moved_square a b apart) (moved_square b c apart_f)
     (sym (turn_cross a b c) ∙ line) none
 
+abbrev ahead_poly : Poly
+ahead_poly = (var 4 ⊖ var 2) ⊗ (var 2 ⊖ var 0) ⊕ (var 5 ⊖ var 3) ⊗ (var 3 ⊖ var 1)
+
 left_slope_ahead : (a b c : Pt) (apart : ¬ IsSamePoint (point_of a) (point_of b)) → slope (seg b c) (left_way (seg a b) apart) ≡ ahead a b c
 unfolding left_way ahead
 left_slope_ahead a b c apart =
-    identity ((var 4 ⊖ var 2) ⊗ (var 2 ⊖ var 0) ⊖ (var 5 ⊖ var 3) ⊗ minus (var 3 ⊖ var 1))
-    ((var 4 ⊖ var 2) ⊗ (var 2 ⊖ var 0) ⊕ (var 5 ⊖ var 3) ⊗ (var 3 ⊖ var 1))
+    identity ((var 4 ⊖ var 2) ⊗ (var 2 ⊖ var 0) ⊖ (var 5 ⊖ var 3) ⊗ minus (var 3 ⊖ var 1)) ahead_poly
     (a.x ∷ a.y ∷ b.x ∷ b.y ∷ c.x ∷ c.y ∷ []) refl
 
 left_slope_back : (a b c : Pt) (apart : ¬ IsSamePoint (point_of b) (point_of c)) → slope (seg a b) (left_way (seg b c) apart) ≡ ahead a b c
 unfolding left_way ahead
 left_slope_back a b c apart =
-    identity ((var 2 ⊖ var 0) ⊗ (var 4 ⊖ var 2) ⊖ (var 3 ⊖ var 1) ⊗ minus (var 5 ⊖ var 3))
-    ((var 4 ⊖ var 2) ⊗ (var 2 ⊖ var 0) ⊕ (var 5 ⊖ var 3) ⊗ (var 3 ⊖ var 1))
+    identity ((var 2 ⊖ var 0) ⊗ (var 4 ⊖ var 2) ⊖ (var 3 ⊖ var 1) ⊗ minus (var 5 ⊖ var 3)) ahead_poly
     (a.x ∷ a.y ∷ b.x ∷ b.y ∷ c.x ∷ c.y ∷ []) refl
 
 -- along one direction a set can't hold near v at two values
