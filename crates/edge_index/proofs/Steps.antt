@@ -92,10 +92,10 @@ out_of v (apart place within out) e = (refl, refl)
 out_of v (leaf place within past in') e = cc
 out_of v (inner place items others looks more opened in' l r) e = cc
 
-pub underway_out : (v : View) (place : ℕ) (next : Option ℕ) (out : List ℕ) (begin used : ℕ) → v.meets place ≡ false → IsAfter place next → IsUnderway v (Some place) out begin used → IsUnderway v next out begin (used + 1)
-underway_out v place next out begin used e follows walk =
+-- a row that is done with one look: what it holds is found
+one_look : (v : View) (place : ℕ) (next : Option ℕ) (here out : List ℕ) (begin used : ℕ) → IsAfter place next → (walk : IsUnderway v (Some place) out begin used) → (walk.rest.below ≡ here) × (walk.rest.below_looks ≡ 1) → IsUnderway v next (out ++ here) begin (used + 1)
+one_look v place next here out begin used follows walk one =
     let p = walk.rest in
-    let nothing = out_of v p.visit e in
     record {
       all = walk.all;
       total = walk.total;
@@ -103,9 +103,14 @@ underway_out v place next out begin used e follows walk =
       items = p.later;
       looks = p.later_looks;
       rest = after_rest v follows p.rest;
-      found = walk.found ∙ ap (λ (xs : List ℕ). out ++ xs) (p.items_are ∙ ap (λ (xs : List ℕ). xs ++ p.later) nothing.0);
-      steps = omega (arith, walk.steps, p.looks_are, nothing.1);
+      found = walk.found ∙ ap (λ (xs : List ℕ). out ++ xs) (p.items_are ∙ ap (λ (xs : List ℕ). xs ++ p.later) one.0) ∙ sym (append_assoc out here p.later);
+      steps = omega (arith, walk.steps, p.looks_are, one.1);
     }
+
+pub underway_out : (v : View) (place : ℕ) (next : Option ℕ) (out : List ℕ) (begin used : ℕ) → v.meets place ≡ false → IsAfter place next → IsUnderway v (Some place) out begin used → IsUnderway v next out begin (used + 1)
+underway_out v place next out begin used e follows walk =
+    subst (λ (found : List ℕ). IsUnderway v next found begin (used + 1)) (append-nil out)
+    (one_look v place next [] out begin used follows walk (out_of v walk.rest.visit e))
 
 -- a leaf that meets is found
 leaf_of : (v : View) {place looks : ℕ} {items : List ℕ} → Visit v place items looks → v.inner ≤ place → v.meets place ≡ true → (items ≡ v.item place ∷ []) × (looks ≡ 1)
@@ -115,19 +120,8 @@ leaf_of v (inner place items others looks more opened in' l r) past e = absurd (
 
 pub underway_leaf : (v : View) (place item : ℕ) (next : Option ℕ) (out : List ℕ) (begin used : ℕ) → v.inner ≤ place → v.meets place ≡ true → v.item place ≡ item → IsAfter place next → IsUnderway v (Some place) out begin used → IsUnderway v next (out ++ item ∷ []) begin (used + 1)
 underway_leaf v place item next out begin used past e is follows walk =
-    let p = walk.rest in
-    let one = leaf_of v p.visit past e in
-    let here = p.items_are ∙ ap (λ (xs : List ℕ). xs ++ p.later) one.0 ∙ ap (λ (i : ℕ). (i ∷ []) ++ p.later) is in
-    record {
-      all = walk.all;
-      total = walk.total;
-      whole = walk.whole;
-      items = p.later;
-      looks = p.later_looks;
-      rest = after_rest v follows p.rest;
-      found = walk.found ∙ ap (λ (xs : List ℕ). out ++ xs) here ∙ sym (append_assoc out (item ∷ []) p.later);
-      steps = omega (arith, walk.steps, p.looks_are, one.1);
-    }
+    let one = leaf_of v walk.rest.visit past e in
+    one_look v place next (item ∷ []) out begin used follows walk (one.0 ∙ ap (λ (i : ℕ). i ∷ []) is, one.1)
 
 -- an inner row that meets is opened
 opened_of : (v : View) {place looks : ℕ} {items later : List ℕ} {later_looks : ℕ} → Visit v place items looks → place < v.inner → v.meets place ≡ true → Rest v place later later_looks → (more : ℕ) × Pending v (2 * place + 1) (items ++ later) more × (looks + later_looks ≡ 1 + more)

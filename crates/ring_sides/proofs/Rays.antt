@@ -1,7 +1,7 @@
 -- The ray from the middle of an edge, and what the count of crossings there says of the whole ring.
 use Rattle.std.proofs.Common.{◌≡◌, ℕ, ℤ, pos, ◌+ℤ◌, ◌-ℤ◌, ◌*ℤ◌, neg_ℤ, ◌<ℤ◌, ◌≤ℤ◌, Bool, true, false, ◌&&◌, ◌||◌, List, [], ◌∷◌, ap, refl, sym, ◌∙◌, subst, arith}
 use mathlib.Core.Bool.{beq}
-use Rattle.std.specs.Prelude.{None, slice_get, int_lt, int_le}
+use Rattle.std.specs.Prelude.{None, not, slice_get, int_lt, int_le}
 use Rattle.std.specs.Bool.{MatchBool}
 use Rattle.std.specs.Ordering.{int_eq}
 use Rattle.std.proofs.lemmas.Bool.Decides.{Decides-int_eq, not_from_Decides}
@@ -95,33 +95,38 @@ right_slope u v = omega (arith, linear, *ℤ-zero u, *ℤ_one v)
 up_slope : (u v : ℤ) → (u *ℤ pos 1) -ℤ (v *ℤ pos 0) ≡ u
 up_slope u v = omega (arith, linear, *ℤ-zero v, *ℤ_one u)
 
-falling_ray : (e : Seg) (s : Bool) → s ≡ true → e.b.y <ℤ e.a.y → IsRay e (middle_of e) s rightward
+-- to the right of an edge that isn't level, on its left where it falls
+steep_ray : (e : Seg) (s : Bool) → MatchBool s (e.b.y <ℤ e.a.y) (e.a.y <ℤ e.b.y) → IsRay e (middle_of e) s rightward
 unfolding rightward
-falling_ray e s left falls = record {
-  up = omega (arith, linear);
-  side = subst (λ z. HasSign z (slope e rightward)) (sym left) (omega (arith, linear, falls, right_slope (e.b.x -ℤ e.a.x) (e.b.y -ℤ e.a.y)));
-  uncrossed = (λ i. crossing_of (a_high i) (b_low i) (left i));
-}
+steep_ray e s steep =
+    let ends = ends_of s steep in
+    record {
+      up = omega (arith, linear);
+      side = ends.2;
+      uncrossed = (λ i. crossing_of (ends.0 i) (ends.1 i) s) ∙ not_both s;
+    }
   where
-    a_high : is_low (middle_of e) (point_of e.a) ≡ false
-    a_high = low_is (e.a.y +ℤ e.b.y) e.a.y false (omega (arith, linear, twice e.a.y, *ℤ_one (e.a.y +ℤ e.b.y), falls))
+    not_both : (s : Bool) → crossing_of (not s) s s ≡ false
+    not_both true = refl
+    not_both false = refl
 
-    b_low : is_low (middle_of e) (point_of e.b) ≡ true
-    b_low = low_is (e.a.y +ℤ e.b.y) e.b.y true (omega (arith, linear, twice e.b.y, *ℤ_one (e.a.y +ℤ e.b.y), falls))
+    low_end : (v : ℤ) (b : Bool) → MatchBool b ((v +ℤ v) ≤ℤ (e.a.y +ℤ e.b.y)) ((e.a.y +ℤ e.b.y) <ℤ (v +ℤ v)) → int_le (v *ℤ pos 2) ((e.a.y +ℤ e.b.y) *ℤ pos 1) ≡ b
+    low_end v true h = low_is (e.a.y +ℤ e.b.y) v true (omega (arith, linear, twice v, *ℤ_one (e.a.y +ℤ e.b.y), h))
+    low_end v false h = low_is (e.a.y +ℤ e.b.y) v false (omega (arith, linear, twice v, *ℤ_one (e.a.y +ℤ e.b.y), h))
 
-rising_ray : (e : Seg) (s : Bool) → s ≡ false → e.a.y <ℤ e.b.y → IsRay e (middle_of e) s rightward
-unfolding rightward
-rising_ray e s right rises = record {
-  up = omega (arith, linear);
-  side = subst (λ z. HasSign z (slope e rightward)) (sym right) (omega (arith, linear, rises, right_slope (e.b.x -ℤ e.a.x) (e.b.y -ℤ e.a.y)));
-  uncrossed = (λ i. crossing_of (a_low i) (b_high i) (right i));
-}
-  where
-    a_low : is_low (middle_of e) (point_of e.a) ≡ true
-    a_low = low_is (e.a.y +ℤ e.b.y) e.a.y true (omega (arith, linear, twice e.a.y, *ℤ_one (e.a.y +ℤ e.b.y), rises))
-
-    b_high : is_low (middle_of e) (point_of e.b) ≡ false
-    b_high = low_is (e.a.y +ℤ e.b.y) e.b.y false (omega (arith, linear, twice e.b.y, *ℤ_one (e.a.y +ℤ e.b.y), rises))
+    ends_of :
+        (s : Bool) → MatchBool s (e.b.y <ℤ e.a.y) (e.a.y <ℤ e.b.y) →
+        (is_low (middle_of e) (point_of e.a) ≡ not s) × (is_low (middle_of e) (point_of e.b) ≡ s) × HasSign s (slope e rightward)
+    ends_of true falls = (
+      low_end e.a.y false (omega (arith, linear, falls)),
+      low_end e.b.y true (omega (arith, linear, falls)),
+      omega (arith, linear, falls, right_slope (e.b.x -ℤ e.a.x) (e.b.y -ℤ e.a.y)),
+    )
+    ends_of false rises = (
+      low_end e.a.y true (omega (arith, linear, rises)),
+      low_end e.b.y false (omega (arith, linear, rises)),
+      omega (arith, linear, rises, right_slope (e.b.x -ℤ e.a.x) (e.b.y -ℤ e.a.y)),
+    )
 
 level_ray : (e : Seg) (s : Bool) → e.b.y ≡ e.a.y → HasSign s (e.b.x -ℤ e.a.x) → IsRay e (middle_of e) s upward
 unfolding upward
@@ -165,8 +170,8 @@ ray_of e apart = by_fall (int_lt e.b.y e.a.y) refl (tells_lt e.b.y e.a.y)
     by_level true k h low = by_way (int_lt e.a.x e.b.x) refl (tells_lt e.a.x e.b.x) h k ((Decides-int_eq e.b.y e.a.y).0 k)
     by_level false k h low = record {
       d = rightward;
-      is = rising_ray e (is_ray_left e) (test_is false false (int_lt e.a.x e.b.x) h k refl)
-          (climbs low (not_from_Decides (int_eq e.b.y e.a.y) (Decides-int_eq e.b.y e.a.y) k));
+      is = subst (λ s. IsRay e (middle_of e) s rightward) (sym (test_is false false (int_lt e.a.x e.b.x) h k refl))
+          (steep_ray e false (climbs low (not_from_Decides (int_eq e.b.y e.a.y) (Decides-int_eq e.b.y e.a.y) k)));
     }
       where
         climbs : e.a.y ≤ℤ e.b.y → ¬ (e.b.y ≡ e.a.y) → e.a.y <ℤ e.b.y
@@ -175,7 +180,7 @@ ray_of e apart = by_fall (int_lt e.b.y e.a.y) refl (tells_lt e.b.y e.a.y)
     by_fall : (x : Bool) → int_lt e.b.y e.a.y ≡ x → MatchBool x (e.b.y <ℤ e.a.y) (e.a.y ≤ℤ e.b.y) → HasRay e
     by_fall true h falls = record {
       d = rightward;
-      is = falling_ray e (is_ray_left e) (test_is true (int_eq e.b.y e.a.y) (int_lt e.a.x e.b.x) h refl refl) falls;
+      is = subst (λ s. IsRay e (middle_of e) s rightward) (sym (test_is true (int_eq e.b.y e.a.y) (int_lt e.a.x e.b.x) h refl refl)) (steep_ray e true falls);
     }
     by_fall false h low = by_level (int_eq e.b.y e.a.y) refl h low
 

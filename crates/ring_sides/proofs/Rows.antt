@@ -20,7 +20,7 @@ use Rattle.point_set.specs.Shape.{IsWellShaped, positions_of_area}
 use Rattle.point_set.specs.Sides.{IsInsideHand, other_hand}
 use Rattle.point_set.specs.Validity.{IsAtPlace, IsValid, HasTooFewPoints, CrossesItself, too_few_points, ring_cross}
 use Rattle.figure_laws.proofs.Lists.Counts.{count_by_length, one_of_sum}
-use Rattle.figure_laws.proofs.Lists.Places.{some_same}
+use Rattle.figure_laws.proofs.Lists.Places.{read_at, some_same}
 use Rattle.side_laws.proofs.Areas.Hands.{AreRingsClean, area_shaped, shell_hand}
 use Rattle.ring_sides.specs.Rows.{owned_edge, owned_edges, row_of, AddsArea, AddsRing, AddsRings, HasItsHand}
 
@@ -148,6 +148,10 @@ area_hands f place area at old new so before =
         (λ other is. subst (λ a. IsAreaHand a row.seg row.hand) (some_same (sym at ∙ is)) hand)
 
 -- ---- what a valid figure's area asks
+-- what was read within the list of a figure's areas is the area at that place
+pub area_read : {f g : Figure} {items : List Area} {place : ℕ} {area : Area} → items ≡ g.areas → g ≡ f → place < length items → area ≡ get_or items place area → IsAtPlace f.areas place area
+area_read list same below is = read_at _ _ _ _ (list ∙ ap (λ (h : Figure). h.areas) same) below is
+
 -- what holds of the item at each place holds of all
 pub all_from_places : {X : Type 0} (P : X → Type 0) (xs : List X) → ((i : ℕ) (x : X) → IsAtPlace xs i x → P x) → All P xs
 all_from_places P xs h i d below =
