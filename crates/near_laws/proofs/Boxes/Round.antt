@@ -117,17 +117,6 @@ near_by_least w box v least = (λ near. common near, λ h. record { box = box; l
       there = near.common.there;
     }
 
--- a point that is the same as a near one is near
-pub near_same : (w : Window) {v p : Point} → IsSamePoint v p → IsNearBox w p → IsNearBox w v
-near_same w same near = record {
-  box = near.box;
-  least = record {
-    holds = λ q h. near.least.holds q (same_trans (same_sym same) h);
-    least = λ other all. near.least.least other (λ q h. all q (same_trans same h));
-  };
-  common = near.common;
-}
-
 -- two boxes have a common point or they haven't
 common_decided : (box w : Window) → HasCommonPoint box w ⊎ (¬ HasCommonPoint box w)
 common_decided box w =
