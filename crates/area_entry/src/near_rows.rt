@@ -31,7 +31,7 @@ impl Model for NearRows {
 impl NearRows {
     ghost use Rattle.std.specs.Prelude.{◌≡◌, ◌<◌, ◌≤◌, length, All, IfOk, OnOk, slice_get, Some};
     ghost use Rattle.fan_order.specs.Rays.{IsShort};
-    ghost use Rattle.area_entry.specs.RowSections.{AreNear, AreSectionsOfRows, IsRowSound};
+    ghost use Rattle.area_entry.specs.RowSections.{AreNear, AreSectionsOfRows, IsRowSound, segs_of_rows};
     ghost use Rattle.plane_exact.specs.NodePoints.{point_at};
     ghost use Rattle.point_set.specs.Validity.{IsOnEdge};
 
@@ -61,6 +61,16 @@ impl NearRows {
         ensures row { slice_get self.now place ≡ Some result.now }
     {
         self.rows.at(place as usize)
+    }
+
+    /// The edges of the rows, in order.
+    ///
+    /// # Errors
+    /// `NoMemory`.
+    pub fn segs(&self, alloc: Global) -> Result<SegList, NoMemory>
+        ensures segs { IfOk result (λ segs. segs ≡ segs_of_rows self.now) }
+    {
+        segs_of(alloc, &self.rows)
     }
 
     /// The sections of the rows at a node.

@@ -32,9 +32,11 @@ impl Model for AreaIndex {
 }
 
 impl AreaIndex {
-    ghost use Rattle.std.specs.Prelude.{◌≡◌, ◌<◌, ◌≤◌, ◌^◌, ◌↔◌, All, IfOk, IfSome, IsNone, length};
+    ghost use Rattle.std.specs.Prelude.{◌≡◌, ◌<◌, ◌≤◌, ◌^◌, ◌↔◌, false, All, IfOk, IfSome, IsNone, length};
     ghost use Rattle.area_locator.specs.Indexed.{IsEdge, IsLocationBy, IsFirstDifference, edges_at, edges_of_area};
     ghost use Rattle.plane_exact.specs.NodePoints.{point_at};
+    ghost use Rattle.point_set.specs.Location.{location_by};
+    ghost use Rattle.point_set.specs.Rings.{is_odd, is_on_edges};
     ghost use Rattle.point_set.specs.Validity.{IsAtPlace};
     ghost use Rattle.point_set.specs.declared.figure.Area.{Area};
     ghost use Rattle.y_index.specs.Steps.{RisesWithin};
@@ -52,7 +54,10 @@ impl AreaIndex {
     }
 
     /// The index over edges.
-    pub(crate) fn over(alloc: Global, edges: SegList) -> Result<AreaIndex, NoMemory>
+    ///
+    /// # Errors
+    /// `NoMemory`.
+    pub fn over(alloc: Global, edges: SegList) -> Result<AreaIndex, NoMemory>
         requires few { length edges ≤ 1048576 }
         requires proper { All IsEdge edges }
         ensures edges { IfOk result (λ index. index ≡ edges) }
@@ -69,6 +74,10 @@ impl AreaIndex {
     pub fn locate<M: Meter>(&self, n: &Node, meter: &mut M) -> Loc
         requires used { M.used meter.old ≤ 2 ^ 62 }
         ensures location { IsLocationBy self.now (point_at n.now) result }
+
+        // What it answers for edges of no valid area too.
+        ensures parity { result ≡ location_by (is_on_edges (point_at n.now) self.now) (is_odd (point_at n.now) self.now) false }
+
         ensures used { RisesWithin (length (edges_at (point_at n.now) self.now)) (length self.now) (M.used meter.old) (M.used meter.new) }
     {
         locate_by(&self.rows, &self.edges, n, meter)

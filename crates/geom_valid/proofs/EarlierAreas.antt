@@ -34,11 +34,12 @@ earlier_at f place before area other IsSo earlier at other_at same so =
 -- an area whose rings are so that none of the first five clauses fails
 pub sound_from : (area : Area) → positions_of_area area ≤ 1048576 → IsAreaShaped area → ¬ SomeRing HasTooFewPoints area
     → ¬ SomeRing CrossesItself area → ¬ RingsShareSegment area
-    → ¬ HasHoleOutside area → ¬ HasHolesThatOverlap area → IsSoundArea area
-sound_from area positions shaped few crossed unshared within unlapped = record {
+    → ¬ HasHoleOutside area → ¬ HasHolesThatOverlap area → ¬ HasTouchCycle area → IsSoundArea area
+sound_from area positions shaped few crossed unshared within unlapped joined = record {
   few = positions;
   clean = record { shaped = shaped; simple = no_ring CrossesItself area crossed; unshared = unshared; within = within; unlapped = unlapped };
   enough = no_ring HasTooFewPoints area few;
+  joined = joined;
 }
 
 pub shaped_at : (f : Figure) → IsWellShaped f → (place : ℕ) (area : Area) → IsAtPlace f.areas place area → IsAreaShaped area

@@ -1,6 +1,7 @@
 pub mod RingLists
 pub mod ByEntering
 pub mod EarlierAreas
+pub mod AloneValid
 pub mod FewPositions
 pub mod GroundRows
 pub mod WiderBoxes

@@ -1,8 +1,9 @@
+use crate::heights::heights_of;
 use crate::rows::ring_rows;
 use area_entry::{NearRows, enters};
-use area_locator::ring_locate;
+use area_locator::{AreaIndex, ring_locate};
 use im_matrix::Loc;
-use plane_exact::{NoMemory, Node, Path};
+use plane_exact::{Count, NoMemory, Node, Path};
 use std::alloc::Global;
 use std::marker::Model;
 
@@ -11,18 +12,19 @@ use std::marker::Model;
 pub(crate) struct Disc<'a> {
     pub(crate) ring: &'a Path,
     pub(crate) rows: NearRows,
+    heights: Option<AreaIndex>,
 }
 
 impl<'a> Model for Disc<'a> {
     ghost use Rattle.std.specs.Prelude.{List};
-    ghost use Rattle.geom_valid.specs.Grounds.{IsDisc};
+    ghost use Rattle.geom_valid.specs.Grounds.{IsLocatedDisc};
     ghost use Rattle.plane_exact.specs.declared.point.Pt.{Pt};
 
     ghost Value = { List Pt };
 
     ghost view = { λ d. d.ring.now };
 
-    ghost invariant = { λ d. IsDisc d.ring.now d.rows };
+    ghost invariant = { λ d. IsLocatedDisc d.ring.now d.rows d.heights };
 }
 
 impl<'a> Disc<'a> {
@@ -31,6 +33,7 @@ impl<'a> Disc<'a> {
     ghost use Rattle.plane_exact.specs.NodePoints.{point_at};
     ghost use Rattle.plane_exact.specs.Places.{point_of};
     ghost use Rattle.plane_exact.specs.declared.point.Pt.{Pt};
+    ghost use Rattle.point_set.specs.Location.{location};
     ghost use Rattle.point_set.specs.Rings.{edges_of};
     ghost use Rattle.point_set.specs.Shape.{IsRingShaped};
     ghost use Rattle.point_set.specs.Validity.{CrossesItself, EdgesShareSegment, HasTooFewPoints, IsAtPlace};
@@ -45,7 +48,12 @@ impl<'a> Disc<'a> {
         ensures ring { IfOk result (λ disc. disc ≡ ring.now) }
     {
         let rows = NearRows::new(alloc, ring_rows(alloc, ring)?)?;
-        Ok(Disc { ring, rows })
+        let heights = heights_of(alloc, &rows)?;
+        Ok(Disc {
+            ring,
+            rows,
+            heights,
+        })
     }
 
     /// Whether some point is inside this hole and not inside the shell.
@@ -71,8 +79,18 @@ impl<'a> Disc<'a> {
         ensures enters { IfOk result (λ b. IsTrue b ↔ Enters (edges_of self.now) (disc_of other.now) part) }
         ensures simple { IsSimpleRing self.now × IsSimpleRing other.now }
     {
-        let first = ring_locate(other.ring, &self.start());
+        let first = other.locate(&self.start());
         enters(alloc, &self.rows, &other.rows, first, part)
+    }
+
+    /// Where a node lies in the area inside the ring.
+    fn locate(&self, n: &Node) -> Loc
+        ensures location { result ≡ location (disc_of self.now) (point_at n.now) }
+    {
+        match &self.heights {
+            Some(index) => index.locate(n, &mut Count::new()),
+            None => ring_locate(self.ring, n),
+        }
     }
 
     /// The ring's first position.

@@ -7,6 +7,7 @@ mod clauses;
 mod disc;
 mod elements;
 mod fault;
+mod heights;
 mod kinds;
 pub mod law;
 mod near_boxes;

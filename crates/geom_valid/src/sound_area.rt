@@ -1,11 +1,12 @@
 use crate::disc::Disc;
+use crate::heights::heights_of;
 use crate::ring_set::RingSet;
 use crate::rows::area_rows;
 use crate::sharing::rows_share;
 use area_entry::{NearRows, enters};
-use area_locator::locate_plain;
+use area_locator::{AreaIndex, locate_plain};
 use im_matrix::Loc;
-use plane_exact::NoMemory;
+use plane_exact::{Count, NoMemory, Node};
 use point_set::Area;
 use std::alloc::Global;
 use std::marker::Model;
@@ -15,23 +16,26 @@ use std::marker::Model;
 pub(crate) struct SoundArea<'a> {
     rings: RingSet<'a>,
     rows: NearRows,
+    heights: Option<AreaIndex>,
 }
 
 impl<'a> Model for SoundArea<'a> {
-    ghost use Rattle.geom_valid.specs.Grounds.{IsSoundWith};
+    ghost use Rattle.geom_valid.specs.Grounds.{IsLocatedArea};
     ghost use Rattle.point_set.specs.declared.figure.Area.{Area};
 
     ghost Value = { Area };
 
     ghost view = { λ s. s.rings };
 
-    ghost invariant = { λ s. IsSoundWith s.rings s.rows };
+    ghost invariant = { λ s. IsLocatedArea s.rings s.rows s.heights };
 }
 
 impl<'a> SoundArea<'a> {
     ghost use Rattle.std.specs.Prelude.{◌≡◌, ◌↔◌, IfOk, IsTrue};
     ghost use Rattle.im_matrix.specs.declared.Loc.TheVariants as loc;
     ghost use Rattle.geom_valid.specs.Grounds.{IsSoundArea};
+    ghost use Rattle.plane_exact.specs.NodePoints.{point_at};
+    ghost use Rattle.point_set.specs.Location.{location};
     ghost use Rattle.point_set.specs.Rings.{edges_of};
     ghost use Rattle.point_set.specs.Validity.{AreasOverlap, AreasShareSegment, EdgesShareSegment};
     ghost use Rattle.valid_laws.specs.Entering.{edges_in, Enters, IsClean};
@@ -42,7 +46,12 @@ impl<'a> SoundArea<'a> {
         ensures area { IfOk result (λ sound. sound ≡ rings.entry) }
     {
         let rows = NearRows::new(alloc, area_rows(alloc, rings.area())?)?;
-        Ok(SoundArea { rings, rows })
+        let heights = heights_of(alloc, &rows)?;
+        Ok(SoundArea {
+            rings,
+            rows,
+            heights,
+        })
     }
 
     /// The area.
@@ -57,6 +66,16 @@ impl<'a> SoundArea<'a> {
         ensures shares { IfOk result (λ b. IsTrue b ↔ AreasShareSegment self.now other.now) }
     {
         rows_share(alloc, &self.rows, &other.rows)
+    }
+
+    /// Where a node lies in the area.
+    fn locate(&self, n: &Node) -> Loc
+        ensures location { result ≡ location self.now (point_at n.now) }
+    {
+        match &self.heights {
+            Some(index) => index.locate(n, &mut Count::new()),
+            None => locate_plain(self.rings.area(), n),
+        }
     }
 
     /// Whether some point is interior to both areas.
@@ -90,7 +109,7 @@ impl<'a> SoundArea<'a> {
         ensures holds { IfOk result (λ b. IsTrue b ↔ Enters (edges_of ring.now) self.now loc.Interior) }
         ensures clean { IsClean self.now }
     {
-        let first = locate_plain(self.rings.area(), &ring.start());
+        let first = self.locate(&ring.start());
         enters(alloc, &ring.rows, &self.rows, first, Loc::Interior)
     }
 }

@@ -151,7 +151,8 @@ of-requires-2 c =
     let unlapped : ¬ HasHolesThatOverlap area
     = λ h. false≢true (sym c.if-branch-4.false ∙ c.in_ok-has_holes_that_overlap.ensures.overlap.1 (subst HasHolesThatOverlap (sym c.in_ok-rings.ensures.area) h)) in
     let sound : IsSoundArea area
-    = sound_from area (few_positions f c.requires.shaped c.args.place area at) (shaped_at f c.requires.shaped c.args.place area at) edges.few edges.crossed edges.unshared within unlapped in
+    = sound_from area (few_positions f c.requires.shaped c.args.place area at) (shaped_at f c.requires.shaped c.args.place area at) edges.few edges.crossed edges.unshared within unlapped
+    (λ h. false≢true (sym c.if-branch-5.false ∙ c.in_ok-has_cycle.ensures.cycle.1 h)) in
     record { sound = subst IsSoundArea (sym c.in_ok-rings.ensures.area) sound }
 
 pub shares_with_earlier-requires-clause-area : goal.shares_with_earlier-requires-clause-area

@@ -24,7 +24,7 @@ holds_part_of-requires c =
 pub returns-then-branch : goal.returns-then-branch
 returns-then-branch c =
     let area = c.args.self.now in
-    let own : IsSoundWith area c.self.inside.rows = subst (λ (a : Area). IsSoundWith a c.self.inside.rows) c.self.view_is c.self.invariant in
+    let own : IsSoundWith area c.self.inside.rows = subst (λ (a : Area). IsSoundWith a c.self.inside.rows) c.self.view_is c.self.invariant.sound in
     let shell : c.shell.result.now ≡ area.shell = c.shell.ensures.shell ∙ ap (λ (a : Area). a.shell) c.self.view_is in
     let held : Enters (edges_of area.shell) c.args.other.now Interior
     = subst (λ (ring : List Pt). Enters (edges_of ring) c.args.other.now Interior) shell (c.in_ok-holds_part_of.ensures.holds.0 c.if-branch.true) in
@@ -40,7 +40,7 @@ holds_part_of-requires-in-loop-hole c =
 pub returns-then-branch-2 : goal.returns-then-branch-2
 returns-then-branch-2 c =
     let area = c.args.self.now in
-    let own : IsSoundWith area c.self.inside.rows = subst (λ (a : Area). IsSoundWith a c.self.inside.rows) c.self.view_is c.self.invariant in
+    let own : IsSoundWith area c.self.inside.rows = subst (λ (a : Area). IsSoundWith a c.self.inside.rows) c.self.view_is c.self.invariant.sound in
     let at = read_at c.holes-hole-items.result.now area.holes c.loop-hole.hole-index c.hole-item.result
     (c.holes-hole-items.ensures.holes ∙ ap (λ (a : Area). a.holes) c.self.view_is) c.loop-hole-test.true c.hole-item.is in
     record {
@@ -63,7 +63,7 @@ pub returns : goal.returns
 returns c =
     let area = c.args.self.now in
     let other = c.args.other.now in
-    let own : IsSoundWith area c.self.inside.rows = subst (λ (a : Area). IsSoundWith a c.self.inside.rows) c.self.view_is c.self.invariant in
+    let own : IsSoundWith area c.self.inside.rows = subst (λ (a : Area). IsSoundWith a c.self.inside.rows) c.self.view_is c.self.invariant.sound in
     let shell : c.shell.result.now ≡ area.shell = c.shell.ensures.shell ∙ ap (λ (a : Area). a.shell) c.self.view_is in
     let holes : c.holes-hole-items.result.now ≡ area.holes = c.holes-hole-items.ensures.holes ∙ ap (λ (a : Area). a.holes) c.self.view_is in
     let not_shell : ¬ Enters (edges_of area.shell) other Interior

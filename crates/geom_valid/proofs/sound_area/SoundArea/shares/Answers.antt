@@ -9,9 +9,9 @@ use Rattle.geom_valid.proofs.sound_area.SoundArea.shares.Goals as goal
 pub returns : goal.returns
 returns c =
     let own : IsSoundWith c.args.self.now c.self.inside.rows
-    = subst (λ (a : Area). IsSoundWith a c.self.inside.rows) c.self.view_is c.self.invariant in
+    = subst (λ (a : Area). IsSoundWith a c.self.inside.rows) c.self.view_is c.self.invariant.sound in
     let its : IsSoundWith c.args.other.now c.other.inside.rows
-    = subst (λ (a : Area). IsSoundWith a c.other.inside.rows) c.other.view_is c.other.invariant in
+    = subst (λ (a : Area). IsSoundWith a c.other.inside.rows) c.other.view_is c.other.invariant.sound in
     let Share : List Seg → List Seg → Type 0 = λ edges others. EdgesShareSegment edges others in
     record {
       shares = IfOk-weaker c.rows_share.result _ _
