@@ -8,10 +8,9 @@ use Rattle.area_locator.proofs.area_index.first_difference.Goals as goal
 
 pub returns-then-not-is_at-clause-first : goal.returns-then-not-is_at-clause-first
 returns-then-not-is_at-clause-first c =
-    let edges = c.as_slice-edges.result.now in
-    let left = edges_left c.loop-edge.edge-iterator in
     subst (λ (list : List Seg). IsFirstDifference list (edges_of_area c.args.area.now) c.loop-edge.place) c.as_slice-edges.ensures.items
-    (differs_at_edge edges (edges_of_area c.args.area.now) left c.loop-edge.place c.loop-edge.invariant.within c.loop-edge.invariant.same
+    (differs_at_edge c.as_slice-edges.result.now (edges_of_area c.args.area.now) (edges_left c.loop-edge.edge-iterator) c.loop-edge.place
+    c.loop-edge.invariant.within c.loop-edge.invariant.same
     c.in-Some.edge (edges_left c.next.new.self) c.in-Some.ensures.steps
     (λ here. true≢false (sym (c.is_at.ensures.at.1 here) ∙ c.if-not-is_at.true)))
 
@@ -26,8 +25,7 @@ loop-edge-preserved c =
 
 pub returns-then-place-edges-clause-first : goal.returns-then-place-edges-clause-first
 returns-then-place-edges-clause-first c =
-    let edges = c.as_slice-edges.result.now in
-    let left = edges_left c.loop-edge.edge-iterator in
     subst (λ (list : List Seg). IsFirstDifference list (edges_of_area c.args.area.now) c.loop-edge.place) c.as_slice-edges.ensures.items
-    (differs_at_end edges (edges_of_area c.args.area.now) left c.loop-edge.place c.loop-edge.invariant.within c.loop-edge.invariant.same
+    (differs_at_end c.as_slice-edges.result.now (edges_of_area c.args.area.now) (edges_left c.loop-edge.edge-iterator) c.loop-edge.place
+    c.loop-edge.invariant.within c.loop-edge.invariant.same
     c.in-None.ensures.steps.0 c.if-place-edges.true)
