@@ -13,12 +13,14 @@ loop-edge-preserved g c =
       looks = c.in_ok-add_crossings_with.ensures.looks ∙ i.looks;
       added =
           crossings_next c.args.w (g.T.Target.figure c.args.t.now) (g.T.Target.figure c.loop-edge.t) i.figure
-          c.as_slice-edge-items.result.now c.args.edges.now c.loop-edge.edge-index _ c.as_slice-edge-items.ensures.items c.loop-edge-test.true c.args.nodes.now
-          c.loop-edge.nodes c.add_crossings_with.new.nodes c.in_ok-add_crossings_with.ensures.nodes i.added;
+          c.as_slice-edge-items.result.now c.args.edges.now c.loop-edge.edge-index _ c.as_slice-edge-items.ensures.items
+          c.loop-edge-test.true c.args.nodes.now c.loop-edge.nodes c.add_crossings_with.new.nodes
+          c.in_ok-add_crossings_with.ensures.nodes i.added;
     }
 
 pub returns-clause-nodes : goal.returns-clause-nodes
 returns-clause-nodes g c =
     adds_all c.args.w (λ e. CrossesOne e (segs_of (g.T.Target.figure c.args.t.now))) c.args.edges.now c.loop-edge.edge-index
-    c.args.nodes.now c.loop-edge.nodes (let same = ap length c.as_slice-edge-items.ensures.items in omega (arith, same, c.loop-edge-test.false))
+    c.args.nodes.now c.loop-edge.nodes
+    (let same = ap length c.as_slice-edge-items.ensures.items in omega (arith, same, c.loop-edge-test.false))
     c.loop-edge.invariant.added
