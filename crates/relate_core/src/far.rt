@@ -2,12 +2,11 @@ ghost use Rattle.std.specs.Prelude.{◌≡◌, ◌&&◌, int_le};
 ghost use Rattle.im_matrix.specs.Cells.{cell, dimension_at};
 ghost use Rattle.im_matrix.specs.declared.Dim.TheVariants as dim;
 ghost use Rattle.im_matrix.specs.declared.Loc.TheVariants as loc;
-ghost use Rattle.plane_laws.specs.Plane.{Point};
-ghost use Rattle.plane_exact.specs.Windows.{IsInWindow};
 ghost use Rattle.near_laws.specs.Near as near;
 ghost use Rattle.topo_pred.specs.Values.{matrix_of};
 ghost use Rattle.relate_core.specs.Taking.{HasTakenIn};
 
+use crate::edges::shared;
 use crate::samples::take_in_cell;
 use im_matrix::{Cell, Dim, Loc};
 use plane_exact::Window;
@@ -42,18 +41,6 @@ pub(crate) fn common_part(u: Option<Window>, v: Option<Window>) -> Option<Window
         Some(shared(&u, &v))
     } else {
         None
-    }
-}
-
-/// The box of all points that two boxes hold.
-fn shared(u: &Window, v: &Window) -> Window
-    ensures holds { (p : Point) → IsInWindow u.now p → IsInWindow v.now p → IsInWindow result p }
-{
-    Window {
-        low_x: u.low_x.max(v.low_x),
-        low_y: u.low_y.max(v.low_y),
-        high_x: u.high_x.min(v.high_x),
-        high_y: u.high_y.min(v.high_y),
     }
 }
 
