@@ -74,7 +74,7 @@ impl Fan {
 
     /// The ray at a place, counted from 0 in the order of angles from the positive x direction.
     pub fn ray(&self, i: usize) -> Dir
-        requires { i < length self.now.rays }
+        requires place { i < length self.now.rays }
         ensures ray { slice_get self.now.rays i ≡ Some result }
     {
         let ray = self.rays[i];
@@ -97,7 +97,7 @@ impl Fan {
 
     /// The middle of the sector that lies counter-clockwise after ray `i`: a direction strictly within it.
     pub fn middle(&self, i: usize) -> Dir
-        requires { i < sectors_of self.now.rays }
+        requires place { i < sectors_of self.now.rays }
         ensures middle { IsMiddle self.now.rays i (direction_of result) }
         ensures within { IsInSector self.now.rays i (direction_of result) }
     {
@@ -113,7 +113,7 @@ impl Fan {
     /// Whether the sector that lies counter-clockwise after ray `i` is inside an area of a figure, by the hands of its
     /// sections. Where there is no ray it isn't.
     pub fn is_inside(&self, which: Which, i: usize) -> bool
-        requires { i < sectors_of self.now.rays }
+        requires place { i < sectors_of self.now.rays }
         ensures inside { AreHandsAlike which self.now.sections → AreSided which self.now.sections
             → (IsTrue result ↔ IsSectorInside which self.now.sections self.now.rays i) }
     {
@@ -125,7 +125,7 @@ impl Fan {
 
     /// Whether a line of a figure runs along ray `i`.
     pub fn has_line(&self, which: Which, i: usize) -> bool
-        requires { i < length self.now.rays }
+        requires place { i < length self.now.rays }
         ensures line { (ray : Dir) → IsAtPlace self.now.rays i ray → (IsTrue result ↔ IsLineAlong which self.now.sections ray) }
     {
         self.walk(which).lines[i]

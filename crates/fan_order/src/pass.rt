@@ -125,7 +125,7 @@ fn raise_reach(reach: &mut [usize], passes: &[Pass], i: usize)
 
 /// The place at which the area of a pass is passed next, or the end of the way.
 fn until(passes: &[Pass], i: usize, end: usize) -> usize
-    requires { i < length passes.now }
+    requires place { i < length passes.now }
     ensures until { IsUntil passes.now end i result }
 {
     let area = passes[i].area;
