@@ -22,21 +22,24 @@ box_of e = record { low_x = int_min e.a.x e.b.x; low_y = int_min e.a.y e.b.y; hi
 in_box : (e : Seg) (p : Point) → IsOnEdge e p → IsInWindow (box_of e) p
 in_box e = (least_of_ends (box_of e) e.a e.b refl refl refl refl).holds
 
+-- a coordinate of a point of an edge whose ends have it in common
+common_coordinate : (x a b px w : ℤ) → a ≡ x → b ≡ x → (int_min a b *ℤ w) ≤ℤ px → px ≤ℤ (int_max a b *ℤ w) → x *ℤ w ≡ px *ℤ pos 1
+common_coordinate x a b px w from to low high =
+    let least : int_min a b ≡ x = omega (arith, ints, clamps, from, to) in
+    let most : int_max a b ≡ x = omega (arith, ints, clamps, from, to) in
+    ≤ℤ_antisymm (subst (λ (m : ℤ). (m *ℤ w) ≤ℤ px) least low) (subst (λ (m : ℤ). px ≤ℤ (m *ℤ w)) most high) ∙ sym (*ℤ_one px)
+
 -- an edge whose ends have one abscissa has it at all its points
 on_upright : (x : ℤ) (e : Seg) → e.a.x ≡ x → e.b.x ≡ x → (p : Point) → IsOnEdge e p → x *ℤ p.w ≡ p.x *ℤ pos 1
 on_upright x e from to p on =
     let box = in_box e p on in
-    let low : int_min e.a.x e.b.x ≡ x = omega (arith, ints, clamps, from, to) in
-    let high : int_max e.a.x e.b.x ≡ x = omega (arith, ints, clamps, from, to) in
-    ≤ℤ_antisymm (subst (λ (m : ℤ). (m *ℤ p.w) ≤ℤ p.x) low box.left) (subst (λ (m : ℤ). p.x ≤ℤ (m *ℤ p.w)) high box.right) ∙ sym (*ℤ_one p.x)
+    common_coordinate x e.a.x e.b.x p.x p.w from to box.left box.right
 
 -- an edge whose ends have one height has it at all its points
 on_level : (y : ℤ) (e : Seg) → e.a.y ≡ y → e.b.y ≡ y → (p : Point) → IsOnEdge e p → y *ℤ p.w ≡ p.y *ℤ pos 1
 on_level y e from to p on =
     let box = in_box e p on in
-    let low : int_min e.a.y e.b.y ≡ y = omega (arith, ints, clamps, from, to) in
-    let high : int_max e.a.y e.b.y ≡ y = omega (arith, ints, clamps, from, to) in
-    ≤ℤ_antisymm (subst (λ (m : ℤ). (m *ℤ p.w) ≤ℤ p.y) low box.bottom) (subst (λ (m : ℤ). p.y ≤ℤ (m *ℤ p.w)) high box.top) ∙ sym (*ℤ_one p.y)
+    common_coordinate y e.a.y e.b.y p.y p.w from to box.bottom box.top
 
 -- a level and an upright edge meet in one point at the most
 pub level_upright : (q : Pt) (e f : Seg) → e.a.y ≡ q.y → e.b.y ≡ q.y → f.a.x ≡ q.x → f.b.x ≡ q.x → MeetAt q e f

@@ -1,7 +1,7 @@
 -- What is known of each name.
-use Rattle.std.proofs.Common.{◌≡◌, ◌∙◌, true, false, Some, refl, ap, arith}
+use Rattle.std.proofs.Common.{◌≡◌, ◌∙◌, Bool, true, false, Some, refl, ap, arith}
 use Rattle.std.proofs.lemmas.Bool.Decides.{nat_tests}
-use Rattle.std.specs.Prelude.{[], ◌∷◌, codes, ◌&&◌, ◌||◌, nat_lt}
+use Rattle.std.specs.Prelude.{[], ◌∷◌, codes, ◌&&◌, ◌||◌, not, nat_lt}
 use Rattle.std.specs.Bool.{then_some}
 use Rattle.im_matrix.specs.declared.Loc.TheVariants.{Interior, Boundary, Exterior}
 use Rattle.im_matrix.specs.declared.Dim.{Dim}
@@ -13,7 +13,7 @@ use Rattle.im_matrix.specs.Common.{has, figures_meet, a_leaves_b, b_leaves_a}
 use Rattle.im_matrix.specs.Names.{Rule, one_of, crosses_rule, name_value, rule_value}
 use Rattle.topo_pred.specs.Later.{IsAtLeast, IsKnown}
 use Rattle.im_matrix.proofs.Laws.{greater-least, rank-most}
-use Rattle.topo_pred.proofs.Matrices.{is_points, is_lines, is_present-greater_zero, rank-greater_zero, rank-greater_one, rank-greater_one-two, itself, with_cells, with_cells-least}
+use Rattle.topo_pred.proofs.Matrices.{everywhere, is_points, is_lines, is_present-greater_zero, rank-greater_zero, rank-greater_one, rank-greater_one-two, itself, with_cells, with_cells-least}
 use Rattle.topo_pred.proofs.KnownTests.{known_value, rising-rank, IsRising, rising-has, rising-or, rising-and, refuted_by, confirmed_by}
 use Rattle.topo_pred.proofs.CellTests.{four_and_two, two_and_four, one_and_two, none_of_four, one_of_four, not_first, two_cells, three_cells, none_of_two_and_two, one_and_four}
 
@@ -45,6 +45,14 @@ interiors_met-least : (m : Matrix) → IsAtLeast (interiors_met m) m
 interiors_met-least m =
     with_cells-least m Two (dimension_at m (cell Interior Boundary)) (dimension_at m (cell Interior Exterior)) (dimension_at m (cell Exterior Interior)) (rank-most (dimension_at m (cell Interior Interior)))
     (omega arith) (omega arith) (omega arith)
+
+-- a test that asks for common points, and for none of others, is false for good once one of the others is there: an area that
+-- both interiors have in common brings the first and none of the others
+refuted_by_points :
+    (test p q : Matrix → Bool) (m : Matrix) → ((x : Matrix) → test x ≡ p x && not (q x)) → IsRising q → q everywhere ≡ true
+    → p (interiors_met m) ≡ true → q (interiors_met m) ≡ q m → IsKnown test m (then_some (q m) false)
+refuted_by_points test p q m means rising all met same =
+    refuted_by test p q m (interiors_met m) means rising all (interiors_met-least m) met same
 
 -- the matrix where A's interior meets B's boundary in an area
 abbrev boundary_met : Matrix → Matrix
@@ -78,46 +86,30 @@ disjoint-known a b m =
 -- Covers is false for good once B leaves A
 pub covers-known : (a b : Dim) (m : Matrix) → IsKnown (name_value Covers a b) m (then_some (b_leaves_a m) false)
 covers-known a b m =
-    refuted_by (name_value Covers a b) figures_meet b_leaves_a m (interiors_met m)
+    refuted_by_points (name_value Covers a b) figures_meet b_leaves_a m
     (λ x. four_and_two (has x Interior Interior) (has x Interior Boundary) (has x Boundary Interior) (has x Boundary Boundary) (has x Exterior Interior) (has x Exterior Boundary))
-    rising-b_leaves_a
-    refl
-    (interiors_met-least m)
-    refl
-    refl
+    rising-b_leaves_a refl refl refl
 
 -- CoveredBy is false for good once A leaves B
 pub covered_by-known : (a b : Dim) (m : Matrix) → IsKnown (name_value CoveredBy a b) m (then_some (a_leaves_b m) false)
 covered_by-known a b m =
-    refuted_by (name_value CoveredBy a b) figures_meet a_leaves_b m (interiors_met m)
+    refuted_by_points (name_value CoveredBy a b) figures_meet a_leaves_b m
     (λ x. two_and_four (has x Interior Interior) (has x Interior Boundary) (has x Boundary Interior) (has x Boundary Boundary) (has x Interior Exterior) (has x Boundary Exterior))
-    rising-a_leaves_b
-    refl
-    (interiors_met-least m)
-    refl
-    refl
+    rising-a_leaves_b refl refl refl
 
 -- Contains is false for good once B leaves A
 pub contains-known : (a b : Dim) (m : Matrix) → IsKnown (name_value Contains a b) m (then_some (b_leaves_a m) false)
 contains-known a b m =
-    refuted_by (name_value Contains a b) (λ x. has x Interior Interior) b_leaves_a m (interiors_met m)
+    refuted_by_points (name_value Contains a b) (λ x. has x Interior Interior) b_leaves_a m
     (λ x. one_and_two (has x Interior Interior) (has x Exterior Interior) (has x Exterior Boundary))
-    rising-b_leaves_a
-    refl
-    (interiors_met-least m)
-    refl
-    refl
+    rising-b_leaves_a refl refl refl
 
 -- Within is false for good once A leaves B
 pub within-known : (a b : Dim) (m : Matrix) → IsKnown (name_value Within a b) m (then_some (a_leaves_b m) false)
 within-known a b m =
-    refuted_by (name_value Within a b) (λ x. has x Interior Interior) a_leaves_b m (interiors_met m)
+    refuted_by_points (name_value Within a b) (λ x. has x Interior Interior) a_leaves_b m
     (λ x. one_and_two (has x Interior Interior) (has x Interior Exterior) (has x Boundary Exterior))
-    rising-a_leaves_b
-    refl
-    (interiors_met-least m)
-    refl
-    refl
+    rising-a_leaves_b refl refl refl
 
 -- Equals is false for good once a figure leaves the other
 pub equals-known : (a b : Dim) (m : Matrix) → IsKnown (name_value Equals a b) m (then_some (a_leaves_b m || b_leaves_a m) false)
@@ -135,14 +127,13 @@ pub contains_properly-known :
     (a b : Dim) (m : Matrix) →
     IsKnown (name_value ContainsProperly a b) m (then_some (has m Boundary Interior || has m Boundary Boundary || b_leaves_a m) false)
 contains_properly-known a b m =
-    refuted_by (name_value ContainsProperly a b) (λ x. has x Interior Interior)
-    (λ x. has x Boundary Interior || has x Boundary Boundary || b_leaves_a x) m (interiors_met m)
+    refuted_by_points (name_value ContainsProperly a b) (λ x. has x Interior Interior)
+    (λ x. has x Boundary Interior || has x Boundary Boundary || b_leaves_a x) m
     (λ x. one_and_four (has x Interior Interior) (has x Boundary Interior) (has x Boundary Boundary) (has x Exterior Interior) (has x Exterior Boundary))
     (rising-or (λ x. has x Boundary Interior || has x Boundary Boundary) b_leaves_a
     (rising-or (λ x. has x Boundary Interior) (λ x. has x Boundary Boundary) (rising-has Boundary Interior) (rising-has Boundary Boundary))
     rising-b_leaves_a)
     refl
-    (interiors_met-least m)
     refl
     refl
 

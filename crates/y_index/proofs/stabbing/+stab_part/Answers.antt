@@ -17,23 +17,16 @@ stab_part-before-requires g t c =
     let part = left_part r in
     search rules
 
-pub returns-then-level-root-clause-fold : goal.returns-then-level-root-clause-fold
-returns-then-level-root-clause-fold g t c =
+pub returns-then-level-root : goal.returns-then-level-root
+returns-then-level-root g t c =
     let r = rooted (g.met.T.Spans.tree c.args.rows.now) c.requires.part c.if-from-to.false c.requires.within c.look-root.ensures.row in
     let low : c.args.level.floor <ℤ c.look-root.result.low = omega (arith, ints) in
-    folded_left c.args.level.floor c.args.level.ceiling r low _ c.args.state c.stab_part-before.result c.stab_part-before.ensures.fold
-
-pub returns-then-level-root-clause-used : goal.returns-then-level-root-clause-used
-returns-then-level-root-clause-used g t c =
-    let r = rooted (g.met.T.Spans.tree c.args.rows.now) c.requires.part c.if-from-to.false c.requires.within c.look-root.ensures.row in
-    let low : c.args.level.floor <ℤ c.look-root.result.low = omega (arith, ints) in
-    used_left c.args.level.floor c.args.level.ceiling r low _ _ _ c.look-root.ensures.used c.stab_part-before.ensures.used
-
-pub returns-then-level-root-clause-used_low : goal.returns-then-level-root-clause-used_low
-returns-then-level-root-clause-used_low g t c =
-    let r = rooted (g.met.T.Spans.tree c.args.rows.now) c.requires.part c.if-from-to.false c.requires.within c.look-root.ensures.row in
-    let low : c.args.level.floor <ℤ c.look-root.result.low = omega (arith, ints) in
-    used_never c.args.level.floor c.args.level.ceiling r low _ _
+    record {
+      fold = folded_left c.args.level.floor c.args.level.ceiling r low _ c.args.state c.stab_part-before.result c.stab_part-before.ensures.fold;
+      looked = omega arith;
+      used = used_left c.args.level.floor c.args.level.ceiling r low _ _ _ c.look-root.ensures.used c.stab_part-before.ensures.used;
+      used_low = used_never c.args.level.floor c.args.level.ceiling r low _ _;
+    }
 
 pub step_at-through-requires-clause-callable : goal.step_at-through-requires-clause-callable
 step_at-through-requires-clause-callable g t c =
@@ -51,23 +44,16 @@ stab_part-requires g t c =
     let part = right_part r in
     search rules
 
-pub returns-clause-fold : goal.returns-clause-fold
-returns-clause-fold g t c =
-    let r = rooted (g.met.T.Spans.tree c.args.rows.now) c.requires.part c.if-from-to.false c.requires.within c.look-root.ensures.row in
-    folded c.args.level.floor c.args.level.ceiling r _ _ _ _ _ c.stab_part-before.ensures.fold c.step_at-through.ensures.fold
-    c.stab_part.ensures.fold
-
-pub returns-clause-used : goal.returns-clause-used
-returns-clause-used g t c =
-    let r = rooted (g.met.T.Spans.tree c.args.rows.now) c.requires.part c.if-from-to.false c.requires.within c.look-root.ensures.row in
-    let low : c.look-root.result.low ≤ℤ c.args.level.floor = omega (arith, ints) in
-    used_both c.args.level.floor c.args.level.ceiling r low _ _ _ _ c.look-root.ensures.used c.stab_part-before.ensures.used_low
-    c.stab_part.ensures.used
-
-pub returns-clause-used_low : goal.returns-clause-used_low
-returns-clause-used_low g t c =
+pub returns : goal.returns
+returns g t c =
     let r = rooted (g.met.T.Spans.tree c.args.rows.now) c.requires.part c.if-from-to.false c.requires.within c.look-root.ensures.row in
     let low : c.look-root.result.low ≤ℤ c.args.level.floor = omega (arith, ints) in
     let most : c.args.level.ceiling ≤ℤ c.look-root.result.most = omega (arith, ints) in
-    used_both_low c.args.level.floor c.args.level.ceiling r low _ _ _ _ c.look-root.ensures.used c.stab_part-before.ensures.used_low most
-    c.stab_part.ensures.used_low
+    let before = c.stab_part-before.ensures in
+    let after = c.stab_part.ensures in
+    record {
+      fold = folded c.args.level.floor c.args.level.ceiling r _ _ _ _ _ before.fold c.step_at-through.ensures.fold after.fold;
+      looked = omega arith;
+      used = used_both c.args.level.floor c.args.level.ceiling r low _ _ _ _ c.look-root.ensures.used before.used_low after.used;
+      used_low = used_both_low c.args.level.floor c.args.level.ceiling r low _ _ _ _ c.look-root.ensures.used before.used_low most after.used_low;
+    }
