@@ -179,6 +179,10 @@ near_second p =
     let b = position 2 in
     record { x = b.x ⊗ var 6 ⊕ (p.x ⊖ b.x) ⊗ num (pos 1); y = b.y ⊗ var 6 ⊕ (p.y ⊖ b.y) ⊗ num (pos 1); w = num (pos 1) ⊗ var 6 }
 
+-- the numbers of three positions, before further values
+abbrev numbers : Pt → Pt → Pt → List ℤ → List ℤ
+numbers a b c vs = a.x ∷ a.y ∷ b.x ∷ b.y ∷ c.x ∷ c.y ∷ vs
+
 abbrev turn_of_three : Poly
 turn_of_three = turn_poly (position 0) (position 2) (position 4)
 
@@ -186,15 +190,13 @@ turn_before : (a b c : Pt) (apart : ¬ IsSamePoint (point_of b) (point_of a)) (n
     → edge_turn (seg b c) (away_point (point_of b) (way b a apart) n) ≡ turn (point_of a) (point_of b) (point_of c)
 unfolding edge_turn turn way away_point
 turn_before a b c apart n =
-    identity (turn_poly (position 2) (position 4) (near_second (position 0))) turn_of_three
-    (a.x ∷ a.y ∷ b.x ∷ b.y ∷ c.x ∷ c.y ∷ pos (suc n) ∷ []) refl
+    identity (turn_poly (position 2) (position 4) (near_second (position 0))) turn_of_three (numbers a b c (pos (suc n) ∷ [])) refl
 
 turn_after : (a b c : Pt) (apart : ¬ IsSamePoint (point_of b) (point_of c)) (n : ℕ)
     → edge_turn (seg a b) (away_point (point_of b) (way b c apart) n) ≡ turn (point_of a) (point_of b) (point_of c)
 unfolding edge_turn turn way away_point
 turn_after a b c apart n =
-    identity (turn_poly (position 0) (position 2) (near_second (position 4))) turn_of_three
-    (a.x ∷ a.y ∷ b.x ∷ b.y ∷ c.x ∷ c.y ∷ pos (suc n) ∷ []) refl
+    identity (turn_poly (position 0) (position 2) (near_second (position 4))) turn_of_three (numbers a b c (pos (suc n) ∷ [])) refl
 
 -- ---- two neighbours on one line go on the same way
 ahead : Pt → Pt → Pt → ℤ
@@ -204,7 +206,7 @@ turn_cross : (a b c : Pt) → turn (point_of a) (point_of b) (point_of c) ≡ ((
 unfolding turn
 turn_cross a b c =
     identity turn_of_three ((var 2 ⊖ var 0) ⊗ (var 5 ⊖ var 3) ⊖ (var 3 ⊖ var 1) ⊗ (var 4 ⊖ var 2))
-    (a.x ∷ a.y ∷ b.x ∷ b.y ∷ c.x ∷ c.y ∷ []) refl
+    (numbers a b c []) refl
 
 no_turn_and_square {ℓ} : {P : Type ℓ} (u v x y : ℤ) → pos 0 <ℤ ((u *ℤ u) +ℤ (v *ℤ v)) → pos 0 <ℤ ((x *ℤ x) +ℤ (y *ℤ y))
     → (u *ℤ y) -ℤ (v *ℤ x) ≡ pos 0 → (x *ℤ u) +ℤ (y *ℤ v) ≡ pos 0 → P
@@ -255,13 +257,13 @@ left_slope_ahead : (a b c : Pt) (apart : ¬ IsSamePoint (point_of a) (point_of b
 unfolding left_way ahead
 left_slope_ahead a b c apart =
     identity ((var 4 ⊖ var 2) ⊗ (var 2 ⊖ var 0) ⊖ (var 5 ⊖ var 3) ⊗ minus (var 3 ⊖ var 1)) ahead_poly
-    (a.x ∷ a.y ∷ b.x ∷ b.y ∷ c.x ∷ c.y ∷ []) refl
+    (numbers a b c []) refl
 
 left_slope_back : (a b c : Pt) (apart : ¬ IsSamePoint (point_of b) (point_of c)) → slope (seg a b) (left_way (seg b c) apart) ≡ ahead a b c
 unfolding left_way ahead
 left_slope_back a b c apart =
     identity ((var 2 ⊖ var 0) ⊗ (var 4 ⊖ var 2) ⊖ (var 3 ⊖ var 1) ⊗ minus (var 5 ⊖ var 3)) ahead_poly
-    (a.x ∷ a.y ∷ b.x ∷ b.y ∷ c.x ∷ c.y ∷ []) refl
+    (numbers a b c []) refl
 
 -- along one direction a set can't hold near v at two values
 pub one_value : {f : Point → Bool} {v : Point} {d : Direction} {b c : Bool} → HoldsAlong (λ p. f p ≡ b) v d
