@@ -13,6 +13,7 @@ use Rattle.point_set.specs.Rings.{edges_of, is_on_edges, is_odd, is_inside}
 use Rattle.point_set.specs.Location.{location, location_by}
 use Rattle.point_set.specs.Shape.{IsRingShaped, IsAreaShaped}
 use Rattle.point_set.specs.Validity.{IsAtPlace, CrossesItself, EdgesShareSegment, AreasShareSegment, AreasOverlap}
+use Rattle.side_laws.proofs.Areas.Hands.{share_back}
 use Rattle.valid_laws.specs.Entering.{edges_in, disc_of, Enters, IsClean, IsSimpleRing, LeavesShell, AreBothInside, LawBeside, LawReach, LawHoleOutside, LawHolesOverlap, LawElementsOverlap}
 
 interior_apart : Interior ≢ Boundary
@@ -72,34 +73,21 @@ to_exterior : (p : Point) (ring : List Pt) → is_on_edges p (edges_of ring) ≡
     → location (disc_of ring) p ≡ Exterior
 to_exterior p ring off h = disc_location p ring ∙ (λ i. location_by (off i) (h i) false)
 
-from_interior : (p : Point) (ring : List Pt) → location (disc_of ring) p ≡ Interior → is_inside p ring ≡ true
-from_interior p ring h = go (is_on_edges p (edges_of ring)) (is_inside p ring) (sym (disc_location p ring) ∙ h)
+-- where the location is that of a point off the edges, it tells whether the point is inside
+from_location : (held : Bool) (p : Point) (ring : List Pt) → location (disc_of ring) p ≡ location_by false held false
+    → is_inside p ring ≡ held
+from_location held p ring h = go (is_on_edges p (edges_of ring)) (is_inside p ring) held (sym (disc_location p ring) ∙ h)
   where
-    go : (b s : Bool) → location_by b s false ≡ Interior → s ≡ true
-    go true s e = cc
-    go false true e = refl
-    go false false e = cc
-
-from_exterior : (p : Point) (ring : List Pt) → location (disc_of ring) p ≡ Exterior → is_inside p ring ≡ false
-from_exterior p ring h = go (is_on_edges p (edges_of ring)) (is_inside p ring) (sym (disc_location p ring) ∙ h)
-  where
-    go : (b s : Bool) → location_by b s false ≡ Exterior → s ≡ false
-    go true s e = cc
-    go false true e = cc
-    go false false e = refl
+    go : (b s held : Bool) → location_by b s false ≡ location_by false held false → s ≡ held
+    go b true true e = refl
+    go b false false e = refl
+    go true s held e = cc
+    go false s held e = cc
 
 -- ---- edges of discs
 -- a common segment is one of both
 pub swapped : {xs ys : List Seg} → EdgesShareSegment xs ys → EdgesShareSegment ys xs
-swapped h = record {
-  i = h.j;
-  j = h.i;
-  e = h.f;
-  f = h.e;
-  e_is = h.f_is;
-  f_is = h.e_is;
-  share = record { a = h.share.a; b = h.share.b; apart = h.share.apart; held = λ p on. let both = h.share.held p on in (both.1, both.0) };
-}
+swapped h = record { i = h.j; j = h.i; e = h.f; f = h.e; e_is = h.f_is; f_is = h.e_is; share = share_back h.share }
 
 -- rings without a common segment, read as areas
 pub discs_unshared : (one other : List Pt) → ¬ EdgesShareSegment (edges_of one) (edges_of other)
@@ -133,8 +121,8 @@ module _ (beside : LawBeside) (reaches : LawReach) where
       back (inl e) =
           let p = beside (disc_of hole) (disc_of shell) (disc_clean hole h) (disc_shaped shell s.shaped) Exterior exterior_apart
           (of_disc hole e) in
-          record { p = p.0; in_hole = from_interior p.0 hole p.1; off_shell = from_exterior p.0 shell p.2 }
-      back (inr e) = record { p = e.x; in_hole = from_interior e.x hole e.lies; off_shell = on_outside e.x shell e.on }
+          record { p = p.0; in_hole = from_location true p.0 hole p.1; off_shell = from_location false p.0 shell p.2 }
+      back (inr e) = record { p = e.x; in_hole = from_location true e.x hole e.lies; off_shell = on_outside e.x shell e.on }
 
   pub holes_overlap : LawHolesOverlap
   holes_overlap one other s h unshared = (
@@ -153,11 +141,11 @@ module _ (beside : LawBeside) (reaches : LawReach) where
       back (inl e) =
           let p = beside (disc_of one) (disc_of other) (disc_clean one s) (disc_shaped other h.shaped) Interior interior_apart
           (of_disc one e) in
-          record { p = p.0; in_one = from_interior p.0 one p.1; in_other = from_interior p.0 other p.2 }
+          record { p = p.0; in_one = from_location true p.0 one p.1; in_other = from_location true p.0 other p.2 }
       back (inr e) =
           let p = beside (disc_of other) (disc_of one) (disc_clean other h) (disc_shaped one s.shaped) Interior interior_apart
           (of_disc other e) in
-          record { p = p.0; in_one = from_interior p.0 one p.2; in_other = from_interior p.0 other p.1 }
+          record { p = p.0; in_one = from_location true p.0 one p.2; in_other = from_location true p.0 other p.1 }
 
   pub elements_overlap : LawElementsOverlap
   elements_overlap one other s h unshared =

@@ -28,10 +28,10 @@ use Rattle.ring_laws.proofs.Germs.Edges.{on_true, direction_pointed}
 use Rattle.ring_laws.proofs.Germs.Areas.{segment_within, toward_on}
 use Rattle.side_laws.proofs.Edges.Places.{IsSimple, ring_is_simple, alone_within}
 use Rattle.side_laws.proofs.Edges.Beside.{held_at}
-use Rattle.side_laws.proofs.Areas.Hands.{hole_shaped}
+use Rattle.side_laws.proofs.Areas.Hands.{hole_shaped, rings_unshared, share_back}
 use Rattle.valid_laws.specs.Entering.{edges_in, IsClean, RunsAlong, LawAlone}
 use Rattle.valid_laws.proofs.Entering.Walk.{cone_mix, away_cone}
-use Rattle.valid_laws.proofs.Entering.Beside.{HasRing, ring_of}
+use Rattle.figure_laws.proofs.Edges.Owners.{HasRing, ring_of}
 use Rattle.valid_laws.proofs.Edges.Moving.{moving}
 use Rattle.figure_laws.proofs.Lists.Places.{all_at}
 
@@ -113,9 +113,6 @@ one_edge : (area : Area) → IsClean area → (e g : Seg) → HasRing (rings_of 
     → (p : Point) → IsOnEdge e p → IsOnEdge g p → ¬ IsSamePoint (point_of e.a) p → ¬ IsSamePoint (point_of e.b) p → g ≡ e
 one_edge area clean e g x y share p on_e on_g not_a not_b = by_ring (cases_order x.k y.k)
   where
-    back : ShareSegment g e
-    back = record { a = share.a; b = share.b; apart = share.apart; held = λ m on. let both = share.held m on in (both.1, both.0) }
-
     shaped_at : (k : ℕ) (ring : List Pt) → IsAtPlace (rings_of area) k ring → IsRingShaped ring
     shaped_at zero ring is = subst IsRingShaped (some_same is) clean.shaped.shell
     shaped_at (suc k) ring is = hole_shaped area clean.shaped k ring is
@@ -124,34 +121,18 @@ one_edge area clean e g x y share p on_e on_g not_a not_b = by_ring (cases_order
     simple = ring_is_simple x.ring (shaped_at x.k x.ring x.ring_is).closed
         (all_at (λ w. ¬ CrossesItself w) (rings_of area) x.k x.ring clean.simple x.ring_is)
 
-    by_place : IsAtPlace (edges_of x.ring) y.j g → (x.j ≡ y.j) ⊎ (x.j ≡ y.j → ⊥) → g ≡ e
-    by_place is (inl one) = some_same (sym is ∙ ap (slice_get (edges_of x.ring)) (sym one) ∙ x.e_is)
-    by_place is (inr differ) = absurd (alone_within simple x.j y.j e g differ x.e_is is p not_a not_b on_e on_g)
+    by_place : IsAtPlace (edges_of x.ring) y.i g → (x.i ≡ y.i) ⊎ (x.i ≡ y.i → ⊥) → g ≡ e
+    by_place is (inl one) = some_same (sym is ∙ ap (slice_get (edges_of x.ring)) (sym one) ∙ x.is)
+    by_place is (inr differ) = absurd (alone_within simple x.i y.i e g differ x.is is p not_a not_b on_e on_g)
 
     by_ring : (x.k ≡ y.k) ⊎ ((x.k < y.k) ⊎ (y.k < x.k)) → g ≡ e
     by_ring (inl one) =
         let ring : y.ring ≡ x.ring = some_same (sym y.ring_is ∙ ap (slice_get (rings_of area)) (sym one) ∙ x.ring_is) in
-        by_place (subst (λ w. IsAtPlace (edges_of w) y.j g) ring y.e_is) (cases_eq x.j y.j)
-    by_ring (inr (inl less)) = absurd (clean.unshared (record {
-      i = x.k;
-      j = y.k;
-      earlier = less;
-      one = x.ring;
-      other = y.ring;
-      one_is = x.ring_is;
-      other_is = y.ring_is;
-      share = record { i = x.j; j = y.j; e = e; f = g; e_is = x.e_is; f_is = y.e_is; share = share };
-    }))
-    by_ring (inr (inr more)) = absurd (clean.unshared (record {
-      i = y.k;
-      j = x.k;
-      earlier = more;
-      one = y.ring;
-      other = x.ring;
-      one_is = y.ring_is;
-      other_is = x.ring_is;
-      share = record { i = y.j; j = x.j; e = g; f = e; e_is = y.e_is; f_is = x.e_is; share = back };
-    }))
+        by_place (subst (λ w. IsAtPlace (edges_of w) y.i g) ring y.is) (cases_eq x.i y.i)
+    by_ring (inr (inl less)) = absurd
+        (rings_unshared clean.unshared x.k y.k less x.ring y.ring x.ring_is y.ring_is x.i y.i e g x.is y.is share)
+    by_ring (inr (inr more)) = absurd
+        (rings_unshared clean.unshared y.k x.k more y.ring x.ring y.ring_is x.ring_is y.i x.i g e y.is x.is (share_back share))
 
 pub alone : LawAlone
 alone area clean i e is v d runs = record {

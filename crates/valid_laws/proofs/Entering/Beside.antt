@@ -1,16 +1,10 @@
 -- From an edge to a point beside it.
-use Rattle.std.proofs.Common.{◌≡◌, ◌≢◌, ◌⊎◌, inl, inr, ℕ, zero, suc, ◌+◌, ◌<◌, ℤ, pos, ◌+ℤ◌, ◌*ℤ◌, ◌<ℤ◌, Bool, true, false, List, [], ◌∷◌, ◌++◌, ap, refl, sym, ◌∙◌, subst, arith}
+use Rattle.std.proofs.Common.{◌≡◌, ◌≢◌, inl, inr, ℕ, zero, suc, Bool, true, false, List, ap, refl, sym, ◌∙◌, subst, arith}
 use Rattle.std.specs.List.{list_any}
-use Rattle.std.proofs.lemmas.Bool.{true≢false, false_from_ne_true, or_parts, or_from}
-use lib.IntN.{*ℤ-zero}
-use Rattle.whole_algebra.proofs.Laws.{linear}
-use Rattle.whole_algebra.proofs.Signs.{pos-*-pos}
-use Rattle.whole_algebra.proofs.Polynomials.{var, num, ◌⊕◌, ◌⊗◌}
-use Rattle.whole_algebra.proofs.Certificates.{same, same_from}
+use Rattle.std.proofs.lemmas.Bool.{true≢false, false_from_ne_true}
 use Rattle.im_matrix.specs.declared.Loc.TheVariants.{Interior, Boundary}
-use Rattle.plane_laws.proofs.Segments.On.{same_from_steps}
 use Rattle.plane_laws.proofs.Points.Same.{same_sym, same_trans, Decides-is_same_point}
-use Rattle.plane_laws.specs.Plane.{Point, IsSamePoint, is_same_point, rise, shift}
+use Rattle.plane_laws.specs.Plane.{Point, IsSamePoint, is_same_point}
 use Rattle.plane_exact.specs.Places.{point_of}
 use Rattle.plane_laws.specs.Directions.{Direction}
 use Rattle.plane_exact.specs.declared.point.Pt.{Pt}
@@ -19,24 +13,23 @@ use Rattle.point_set.specs.declared.edge.Hand.{Hand}
 use Rattle.point_set.specs.declared.edge.Hand.TheVariants as hand
 use Rattle.point_set.specs.declared.figure.Area.{Area}
 use Rattle.point_set.specs.Rings.{edges_of, is_on_edge, is_on_edges, is_inside}
-use Rattle.point_set.specs.Location.{location, location_by, rings_of, edges_of_rings}
+use Rattle.point_set.specs.Location.{location, location_by, rings_of}
 use Rattle.point_set.specs.Shape.{IsAreaShaped}
-use Rattle.plane_laws.specs.Along.{IsInCone, HoldsAlong}
-use Rattle.point_set.specs.Sides.{PointsTo, other_hand}
+use Rattle.plane_laws.specs.Along.{HoldsAlong}
+use Rattle.point_set.specs.Sides.{other_hand}
 use Rattle.point_set.specs.Edges.{IsOnEdgeAlone, IsAreaHand}
 use Rattle.point_set.specs.Validity.{IsAtPlace, CrossesItself}
 use Rattle.figure_laws.proofs.Lists.Places.{some_same}
-use Rattle.plane_laws.proofs.Near.Near.{IsNear, near_mix}
-use Rattle.ring_laws.proofs.Room.Edges.{HoldBoth, room}
-use Rattle.plane_laws.proofs.Near.Away.{away_point, away_point_is, away_near, far_for}
-use Rattle.ring_laws.proofs.Germs.Edges.{shift_self, rise_self}
+use Rattle.figure_laws.proofs.Edges.Owners.{HasRing, ring_of}
+use Rattle.plane_laws.proofs.Near.Near.{near_mix}
+use Rattle.ring_laws.proofs.Room.Edges.{room}
+use Rattle.plane_laws.proofs.Near.Away.{away_near, far_for}
 use Rattle.ring_laws.proofs.Germs.Areas.{location_stays}
 use Rattle.germ_laws.proofs.Rays.WayTo.{way_to, way_to_is}
 use Rattle.germ_laws.proofs.Room.Starry.{near_self}
 use Rattle.germ_laws.proofs.Sectors.Closed.{none_held}
 use Rattle.side_laws.proofs.Rings.Hand.{some_inside_hand}
-use Rattle.side_laws.proofs.Areas.Hands.{AreRingsClean, hole_shaped, shell_hand, hole_hand}
-use Rattle.side_laws.proofs.Edges.Beside.{left_way, right_way, left_way_slope, right_way_slope}
+use Rattle.side_laws.proofs.Areas.Hands.{AreRingsClean, hole_shaped, shell_hand, hole_hand, some_way, along_both, along_some}
 use Rattle.valid_laws.specs.Entering.{edges_in, IsClean, RunsAlong, LawAlone, LawBeside, LawMoving}
 use Rattle.valid_laws.proofs.Entering.Walk.{Placed, some_place}
 use Rattle.figure_laws.proofs.Lists.Places.{all_at}
@@ -53,42 +46,6 @@ settled_area area shaped v off d =
             (r.free r.n (omega arith) m (near_mix (away_near r.n far away) (near_self v r.n) on));
       });
     }
-
-pub both_along : {P Q : Point → Type 0} {v : Point} {d : Direction} → HoldsAlong P v d → HoldsAlong Q v d → HoldsAlong (λ q. P q × Q q) v d
-both_along h k = record {
-  from = h.from + k.from;
-  holds = λ n far q away. (h.holds n (omega (arith, far)) q away, k.holds n (omega (arith, far)) q away);
-}
-
-record HasPoint (P : Point → Type 0) : Type 0 where
-  q : Point
-  is : P q
-
-some_along : {P : Point → Type 0} {v : Point} {d : Direction} → HoldsAlong P v d → HasPoint P
-some_along {P} {v} {d} h = record
-    { q = away_point v d h.from; is = h.holds (suc h.from) (omega arith) (away_point v d h.from) (away_point_is v d h.from) }
-
--- ---- the ring of an edge
-pub record HasRing (rings : List (List Pt)) (e : Seg) : Type 0 where
-  pub k : ℕ
-  pub ring : List Pt
-  pub ring_is : IsAtPlace rings k ring
-  pub j : ℕ
-  pub e_is : IsAtPlace (edges_of ring) j e
-
-in_parts : (xs ys : List Seg) (i : ℕ) (e : Seg) → IsAtPlace (xs ++ ys) i e → IsAtPlace xs i e ⊎ ((j : ℕ) × IsAtPlace ys j e)
-in_parts [] ys i e is = inr (i, is)
-in_parts (x ∷ xs) ys zero e is = inl is
-in_parts (x ∷ xs) ys (suc i) e is = in_parts xs ys i e is
-
-pub ring_of : (rings : List (List Pt)) (i : ℕ) (e : Seg) → IsAtPlace (edges_of_rings rings) i e → HasRing rings e
-ring_of [] i e is = cc
-ring_of (ring ∷ rings) i e is = go (λ j is_j. ring_of rings j e is_j) (in_parts (edges_of ring) (edges_of_rings rings) i e is)
-  where
-    go : ((j : ℕ) → IsAtPlace (edges_of_rings rings) j e → HasRing rings e) → IsAtPlace (edges_of ring) i e
-        ⊎ ((j : ℕ) × IsAtPlace (edges_of_rings rings) j e) → HasRing (ring ∷ rings) e
-    go more (inl here) = record { k = 0; ring = ring; ring_is = refl; j = i; e_is = here }
-    go more (inr (j, there)) = let h = more j there in record { k = suc h.k; ring = h.ring; ring_is = h.ring_is; j = h.j; e_is = h.e_is }
 
 -- ---- the hand of each edge of a clean area
 record HasHandOf (area : Area) (e : Seg) : Type 0 where
@@ -117,16 +74,7 @@ hand_at area clean i e is = by_ring (ring_of (rings_of area) i e is)
         record { side = other_hand hand.0; is = hole_hand area (rings_clean clean) k ring is_ring hand.0 hand.1 j e is_e }
 
     by_ring : HasRing (rings_of area) e → HasHandOf area e
-    by_ring h = by_place h.k h.ring h.j h.ring_is h.e_is
-
-record HasWayTo (side : Hand) (e : Seg) : Type 0 where
-  d : Direction
-  to : PointsTo side e d
-
-some_way_to : (side : Hand) → ¬ (side ≡ hand.Line) → (e : Seg) → ¬ IsSamePoint (point_of e.a) (point_of e.b) → HasWayTo side e
-some_way_to hand.Left sided e apart = record { d = left_way e apart; to = left_way_slope e apart }
-some_way_to hand.Right sided e apart = record { d = right_way e apart; to = right_way_slope e apart }
-some_way_to hand.Line sided e apart = absurd (sided refl)
+    by_ring h = by_place h.k h.ring h.i h.ring_is h.is
 
 -- ---- some direction along an edge
 record HasRun (v : Point) (e : Seg) : Type 0 where
@@ -158,14 +106,14 @@ beside moving alone one other clean shaped part inner enters = by_place (some_pl
     by_hand : (e : Seg) → HasHandOf one e → ¬ IsSamePoint (point_of e.a) (point_of e.b) → (v : Point) → IsOnEdgeAlone one e v
         → location other v ≡ part → (p : Point) × (location one p ≡ Interior) × (location other p ≡ part)
     by_hand e h apart v on_alone lies =
-        let way = some_way_to h.side h.is.sided e apart in
-        let found = some_along (both_along (h.is.inside v on_alone way.d way.to) (settled_area other shaped v (off v lies) way.d)) in
+        let way = some_way h.side h.is.sided e apart in
+        let found = along_some (along_both (h.is.inside v on_alone way.d way.to) (settled_area other shaped v (off v lies) way.d)) in
         (found.q, found.is.0, found.is.1 ∙ lies)
 
     by_place : Placed (edges_in one) enters.x → (p : Point) × (location one p ≡ Interior) × (location other p ≡ part)
     by_place (i, e, is, on) =
         let run = some_run enters.x e on (moving one i e is) in
-        let near = some_along
-        (both_along (alone one clean i e is enters.x run.d run.runs)
+        let near = along_some
+        (along_both (alone one clean i e is enters.x run.d run.runs)
         (settled_area other shaped enters.x (off enters.x enters.lies) run.d)) in
         by_hand e (hand_at one clean i e is) (moving one i e is) near.q near.is.0 (near.is.1 ∙ enters.lies)

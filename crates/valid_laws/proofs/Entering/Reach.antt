@@ -23,7 +23,7 @@ use Rattle.point_set.specs.Location.{location, location_by, edges_of_rings}
 use Rattle.point_set.specs.Shape.{IsAreaShaped}
 use Rattle.plane_laws.specs.Along.{IsAway, IsInCone}
 use Rattle.point_set.specs.Germ.{IsGerm}
-use Rattle.point_set.specs.Validity.{IsAtPlace, AreasShareSegment}
+use Rattle.point_set.specs.Validity.{IsAtPlace, ShareSegment, AreasShareSegment}
 use Rattle.ring_laws.proofs.Germs.Areas.{segment_within, location_stays, toward_on}
 use Rattle.ring_laws.proofs.Germs.Edges.{on_true, direction_pointed, shift_self, rise_self, cross_of, dot_of, moving, cone_toward}
 use Rattle.plane_laws.proofs.Near.Away.{away_point, away_point_is, away_near, far_for, between_in_cone}
@@ -132,6 +132,10 @@ module _ (first : LawFirstMeeting) (one other : Area) (shaped_one : IsAreaShaped
   settle {p} {t} {y} there meeting false false off_one off_other =
       absurd (true≢false (sym meeting.on ∙ off_lists (edges_in one) (edges_in other) y off_one off_other))
 
+  -- no edges of the two areas share a segment
+  none_shared : (i j : ℕ) (g h : Seg) → IsAtPlace (edges_in one) i g → IsAtPlace (edges_in other) j h → ¬ ShareSegment g h
+  none_shared i j g h is_g is_h share = unshared (record { i = i; j = j; e = g; f = h; e_is = is_g; f_is = is_h; share = share })
+
   -- near q, two edges of the two areas that have another common point share a segment
   none_near : (q y : Point) (r : HasRoom q (edges_in one)) (k : HasRoom q (edges_in other)) → HoldBoth q y (edges_in one)
       → HoldBoth q y (edges_in other) → ¬ IsSamePoint q y → ¬ IsBoth y
@@ -147,21 +151,8 @@ module _ (first : LawFirstMeeting) (one other : Area) (shaped_one : IsAreaShaped
       by_places (i, g, is_g, on_g) (j, h, is_h, on_h) =
           let q_g = on_true (through (edges_in one) held i g is_g on_g (is_on_edge q g) refl) in
           let q_h = on_true (through (edges_in other) held_other j h is_h on_h (is_on_edge q h) refl) in
-          unshared (record {
-            i = i;
-            j = j;
-            e = g;
-            f = h;
-            e_is = is_g;
-            f_is = is_h;
-            share = record {
-              a = q;
-              b = y;
-              apart = apart;
-              held = λ m on.
-                  (segment_within q_g (on_true on_g) on, segment_within q_h (on_true on_h) on);
-            };
-          })
+          none_shared i j g h is_g is_h
+          (record { a = q; b = y; apart = apart; held = λ m on. (segment_within q_g (on_true on_g) on, segment_within q_h (on_true on_h) on) })
 
   -- an edge that runs from q along r, another way than straight on
   record IsTurned (q : Point) (d : Direction) : Type 0 where
@@ -334,15 +325,8 @@ module _ (first : LawFirstMeeting) (one other : Area) (shaped_one : IsAreaShaped
   shared_along : (q : Point) (d : Direction) (i j : ℕ) (g h : Seg) → IsAtPlace (edges_in one) i g → IsAtPlace (edges_in other) j h
       → is_on_edge q g ≡ true → is_on_edge q h ≡ true → (a b : Point) → IsOnSegment (point_of g.a) (point_of g.b) a
       → IsOnSegment (point_of h.a) (point_of h.b) b → IsInCone q d d a → ¬ IsInCone q d d b
-  shared_along q d i j g h is_g is_h on_g on_h a b on_a on_b c k = unshared (record {
-    i = i;
-    j = j;
-    e = g;
-    f = h;
-    e_is = is_g;
-    f_is = is_h;
-    share = share_along q d g h on_g on_h a b on_a on_b c k;
-  })
+  shared_along q d i j g h is_g is_h on_g on_h a b on_a on_b c k =
+      none_shared i j g h is_g is_h (share_along q d g h on_g on_h a b on_a on_b c k)
 
   module _ (moving_edges : LawMoving) where
     at_common : {p t q : Point} → IsThere p → IsFirstMeeting all p t q → IsBoth q → Found

@@ -27,11 +27,12 @@ use Rattle.side_laws.proofs.Edges.Places.{IsSimple, ring_is_simple}
 use Rattle.ring_laws.proofs.Germs.Areas.{segment_within, location_stays, toward_on}
 use Rattle.ring_laws.proofs.Germs.Edges.{on_true, direction_pointed}
 use Rattle.plane_laws.proofs.Near.Away.{some_weight, between_in_cone}
-use Rattle.plane_laws.proofs.Near.Near.{size_of, shift_mix, rise_mix}
+use Rattle.plane_laws.proofs.Near.Near.{size_of}
 use Rattle.std.specs.List.{list_any}
 use lib.Signed.{<ℤ_irrefl, <ℤ-≤ℤ_trans}
 use Rattle.meeting_laws.proofs.Meetings.FirstOfOne.{meeting}
 use Rattle.valid_laws.specs.Entering.{edges_in, LawWalk}
+pub use Rattle.germ_laws.proofs.Room.Germs.{cone_mix}
 use Rattle.germ_laws.proofs.Rays.WayTo.{way_to, way_to_is}
 use Rattle.meeting_laws.specs.Meetings.{IsFirstMeeting, LawFirstMeeting}
 
@@ -93,59 +94,6 @@ back_always {a} {b} {x} {q} on_x on_q = by_sign on_x.s (λ less. absurd (<ℤ_ir
         let same_end : IsSamePoint x b = same_from_steps x b (none m.times on_x.s (shift x b) (shift a b) m.some z (mix_shift_end m))
         (none m.times on_x.s (rise x b) (rise a b) m.some z (mix_rise_end m)) in
         segment_same (same_refl q) (same_refl b) (same_sym same_end) (end_on_segment q b)
-
--- what is between two points of one way is on that way
-cone_sum : (k s t z x y c r l g d : ℤ) → k *ℤ z ≡ (s *ℤ x) +ℤ (t *ℤ y) → c *ℤ x ≡ r *ℤ d → l *ℤ y ≡ g *ℤ d
-    → (k *ℤ (c *ℤ l)) *ℤ z ≡ (((s *ℤ l) *ℤ r) *ℤ d) +ℤ (((t *ℤ c) *ℤ g) *ℤ d)
-cone_sum k s t z x y c r l g d e f h =
-    same_from ((var 0 ⊗ (var 6 ⊗ var 8)) ⊗ var 3) (((var 1 ⊗ var 8) ⊗ var 7) ⊗ var 10 ⊕ ((var 2 ⊗ var 6) ⊗ var 9) ⊗ var 10)
-    (k ∷ s ∷ t ∷ z ∷ x ∷ y ∷ c ∷ r ∷ l ∷ g ∷ d ∷ [])
-    (scaled (var 6 ⊗ var 8) (same (var 0 ⊗ var 3) (var 1 ⊗ var 4 ⊕ var 2 ⊗ var 5) e)
-    ⊞ scaled (var 1 ⊗ var 8) (same (var 6 ⊗ var 4) (var 7 ⊗ var 10) f)
-    ⊞ scaled (var 2 ⊗ var 6) (same (var 8 ⊗ var 5) (var 9 ⊗ var 10) h)) refl
-
-joined_cone : (c i j x z : ℤ) → c *ℤ z ≡ (i *ℤ x) +ℤ (j *ℤ x) → c *ℤ z ≡ (i +ℤ j) *ℤ x
-joined_cone c i j x z e = same_from (var 0 ⊗ var 4) ((var 1 ⊕ var 2) ⊗ var 3) (c ∷ i ∷ j ∷ x ∷ z ∷ [])
-    (same (var 0 ⊗ var 4) (var 1 ⊗ var 3 ⊕ var 2 ⊗ var 3) e) refl
-
-pub cone_mix : {v : Point} {d : Direction} {p x m : Point} → IsInCone v d d p → IsInCone v d d x → IsOnSegment p x m → IsInCone v d d m
-cone_mix {v} {d} {p} {x} {m} c e on =
-    let n = on.mix in
-    record {
-      i = (on.s *ℤ e.times) *ℤ (c.i +ℤ c.j);
-      j = (on.t *ℤ c.times) *ℤ (e.i +ℤ e.j);
-      first = nonneg-*-nonneg (nonneg-*-nonneg n.first (<ℤ_weaken e.positive)) (<ℤ_weaken c.some);
-      second = nonneg-*-nonneg (nonneg-*-nonneg n.second (<ℤ_weaken c.positive)) (<ℤ_weaken e.some);
-      some = weighed on.s on.t (e.times *ℤ (c.i +ℤ c.j)) (c.times *ℤ (e.i +ℤ e.j)) ((on.s *ℤ e.times) *ℤ (c.i +ℤ c.j))
-          ((on.t *ℤ c.times) *ℤ (e.i +ℤ e.j)) n.first n.second (some_weight n) (pos-*-pos e.positive c.some) (pos-*-pos c.positive e.some)
-          (same_from ((var 0 ⊗ var 1) ⊗ var 2) (var 0 ⊗ (var 1 ⊗ var 2)) (on.s ∷ e.times ∷ (c.i +ℤ c.j) ∷ [])
-          (same (num (pos 0)) (num (pos 0)) refl) refl)
-          (same_from ((var 0 ⊗ var 1) ⊗ var 2) (var 0 ⊗ (var 1 ⊗ var 2)) (on.t ∷ c.times ∷ (e.i +ℤ e.j) ∷ [])
-          (same (num (pos 0)) (num (pos 0)) refl) refl);
-      times = n.times *ℤ (c.times *ℤ e.times);
-      positive = pos-*-pos n.some (pos-*-pos c.positive e.positive);
-      across = cone_sum n.times on.s on.t (shift v m) (shift v p) (shift v x) c.times (c.i +ℤ c.j) e.times (e.i +ℤ e.j) d.x
-          (shift_mix v n) (joined_cone c.times c.i c.j d.x (shift v p) c.across) (joined_cone e.times e.i e.j d.x (shift v x) e.across);
-      above = cone_sum n.times on.s on.t (rise v m) (rise v p) (rise v x) c.times (c.i +ℤ c.j) e.times (e.i +ℤ e.j) d.y (rise_mix v n)
-          (joined_cone c.times c.i c.j d.y (rise v p) c.above) (joined_cone e.times e.i e.j d.y (rise v x) e.above);
-    }
-  where
-    weighed : (u w s k a b : ℤ) → pos 0 ≤ℤ u → pos 0 ≤ℤ w → pos 0 <ℤ (u +ℤ w) → pos 0 <ℤ s → pos 0 <ℤ k → a ≡ u *ℤ s → b ≡ w *ℤ k
-        → pos 0 <ℤ (a +ℤ b)
-    weighed u w s k a b hu hw h hs hk ea eb = by_sign u (λ less. absurd (<ℤ_irrefl (<ℤ-≤ℤ_trans less hu))) none some_first
-      where
-        none : u ≡ pos 0 → pos 0 <ℤ (a +ℤ b)
-        none z =
-            let some_w : pos 0 <ℤ w = omega (arith, linear, h, z) in
-            let both = pos-*-pos some_w hk in
-            let left = nonneg-*-nonneg hu (<ℤ_weaken hs) in
-            omega (arith, linear, both, left, ea, eb)
-
-        some_first : pos 0 <ℤ u → pos 0 <ℤ (a +ℤ b)
-        some_first more =
-            let both = pos-*-pos more hs in
-            let right = nonneg-*-nonneg hw (<ℤ_weaken hk) in
-            omega (arith, linear, both, right, ea, eb)
 
 -- the points v + d/n lie from v along d
 pub away_cone : {v : Point} {d : Direction} {n : ℕ} {p : Point} → 0 < n → IsAway v d n p → IsInCone v d d p
