@@ -33,7 +33,8 @@ use Rattle.near_laws.proofs.Far.Shows.{far_shows_no_more}
 use Rattle.relate_core.proofs.Taking.{taken_either}
 
 module _ (a b : Figure) (valid : AreValid a b) (rule : Rule) (query : Query) (x y : Extent) (is_x : IsExtent a rule x)
-    (is_y : IsExtent b rule y) (u v w : Option Window) (frame_x : u ≡ frame x) (frame_y : v ≡ frame y) (common : IsCommonPart u v w) (fresh far : Progress)
+    (is_y : IsExtent b rule y) (u v w : Option Window)
+    (frame_x : u ≡ frame x) (frame_y : v ≡ frame y) (common : IsCommonPart u v w) (fresh far : Progress)
     (value : (m : Matrix) → value_at fresh m ≡ value_of query (dimension_of a) (dimension_of b) m)
     (start : (c : Cell) → dimension_at (matrix_of fresh) c ≡ start_dimension c)
     (taken_far : HasTakenIn (λ c d. d ≡ beyond_cell x y w c) fresh far) where
