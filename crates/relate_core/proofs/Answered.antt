@@ -6,7 +6,7 @@ use Rattle.std.proofs.lemmas.List.Elements.{All-contains}
 use Rattle.im_matrix.specs.Cells.{cell, rank, dimension_at, start_dimension}
 use Rattle.im_matrix.specs.declared.Cell.{Cell}
 use Rattle.im_matrix.specs.declared.Dim.{Dim}
-use Rattle.im_matrix.specs.declared.Dim.TheVariants.{Empty, Zero, One, Two}
+use Rattle.im_matrix.specs.declared.Dim.TheVariants.{Empty}
 use Rattle.im_matrix.specs.declared.Loc.{Loc}
 use Rattle.im_matrix.specs.declared.Loc.TheVariants.{Interior, Boundary, Exterior}
 use Rattle.im_matrix.specs.declared.Matrix.{Matrix}
@@ -16,17 +16,18 @@ use Rattle.plane_exact.specs.declared.window.Window.{Window}
 use Rattle.point_set.specs.declared.extent.Extent.{Extent}
 use Rattle.point_set.specs.declared.figure.Figure.{Figure}
 use Rattle.point_set.specs.declared.rule.Rule.{Rule}
-use Rattle.point_set.specs.Dimension.{IsDimension, ShowsDimension}
+use Rattle.point_set.specs.Dimension.{ShowsDimension}
 use Rattle.point_set.specs.Extents.{IsExtent}
-use Rattle.point_set.specs.Nodes.{IsNode, IsFewNode}
 use Rattle.point_set.specs.Relation.{IsInCell}
 use Rattle.point_set.specs.Samples.{IsSample, IsSampleMatrix}
 use Rattle.point_set.specs.Visible.{AreValid}
-use Rattle.figure_laws.proofs.Sets.Dimensions.{segment_of_triangle, point_of_segment}
 use Rattle.cell_laws.specs.Decided.{AreDecidedBySamples}
 use Rattle.cell_laws.proofs.Cells.Matrix.{decided_by_samples}
 use Rattle.cell_laws.proofs.Samples.Same.{sample_same}
-use Rattle.near_laws.specs.Near.{HoldsCommonPart, IsNearNode, LawBeyondIsThere, LawNearDecide, beyond_cell, beyond_parts}
+use Rattle.few_laws.proofs.Nodes.Crossings.{few_is_node}
+use Rattle.near_laws.proofs.Beyond.Shown.{beyond_is_there}
+use Rattle.near_laws.proofs.Decide.Near.{near_decide, shown_at_most}
+use Rattle.near_laws.specs.Near.{HoldsCommonPart, IsNearNode, beyond_cell, beyond_parts}
 use Rattle.node_table.specs.declared.entry.Entry.{Entry}
 use Rattle.topo_pred.specs.declared.Answer.TheVariants.{Im, Truth}
 use Rattle.topo_pred.specs.declared.Progress.{Progress}
@@ -58,27 +59,7 @@ module _ (a b : Figure) (valid : AreValid a b) (rule : Rule) (Nodes : Point → 
   pub taken_at_nodes : (p q : Progress) → HasTakenIn (IsSample (IsListed entries) a b rule) p q → HasTakenIn (IsSample Nodes a b rule) p q
   taken_at_nodes p q h = taken_alike (IsSample (IsListed entries) a b rule) (IsSample Nodes a b rule) of_nodes of_listed p q h
 
--- ---- dimensions
--- what a set shows is no more than its dimension
-shown_at_most : (Set : Point → Type 0) (d e : Dim) → ShowsDimension Set d → IsDimension Set e → rank d ≤ rank e
-shown_at_most Set Empty e shown is = omega arith
-shown_at_most Set d Two shown is = by d
-  where
-    by : (d : Dim) → rank d ≤ 3
-    by Empty = omega arith
-    by Zero = omega arith
-    by One = omega arith
-    by Two = omega arith
-shown_at_most Set Two One t is = absurd (is.0 t)
-shown_at_most Set Two Zero t is = absurd (is.0 t)
-shown_at_most Set Two Empty t is = absurd (is (point_of_segment (segment_of_triangle t)))
-shown_at_most Set One One s is = omega arith
-shown_at_most Set One Zero s is = absurd (is.1 s)
-shown_at_most Set One Empty s is = absurd (is (point_of_segment s))
-shown_at_most Set Zero One p is = omega arith
-shown_at_most Set Zero Zero p is = omega arith
-shown_at_most Set Zero Empty p is = absurd (is p)
-
+-- ---- the start
 -- what a cell starts with, and isn't Empty, the envelopes tell
 start_told :
     (x y : Extent) (w : Option Window) (p q : Loc) (d : Dim) → d ≢ Empty → d ≡ start_dimension (cell p q) → d ≡ beyond_parts x y w p q
@@ -91,8 +72,7 @@ start_told x y w Boundary q d some is = absurd (some is)
 -- ---- the envelopes and the near nodes
 -- A query has taken in what the envelopes of two figures tell of what is outside of a box, and the samples at the few nodes near it.
 module _ (a b : Figure) (valid : AreValid a b) (rule : Rule) (x y : Extent) (is_x : IsExtent a rule x) (is_y : IsExtent b rule y)
-    (w : Option Window) (holds : HoldsCommonPart a b rule w) (near_decide : LawNearDecide a b rule) (is_there : LawBeyondIsThere a b rule)
-    (few_is_node : (v : Point) → IsFewNode a b v → IsNode a b v) (query : Query) (dim_a dim_b : Dim) (fresh last : Progress)
+    (w : Option Window) (holds : HoldsCommonPart a b rule w) (query : Query) (dim_a dim_b : Dim) (fresh last : Progress)
     (value : (m : Matrix) → value_at fresh m ≡ value_of query dim_a dim_b m)
     (start : (c : Cell) → dimension_at (matrix_of fresh) c ≡ start_dimension c)
     (taken : HasTakenIn (λ c d. (d ≡ beyond_cell x y w c) ⊎ IsSample (IsNearNode w a b) a b rule c d) fresh last) where
@@ -110,7 +90,7 @@ module _ (a b : Figure) (valid : AreValid a b) (rule : Rule) (x y : Extent) (is_
   -- with all taken in the query's matrix is this one
   all_taken : ((c : Cell) (d : Dim) → IsKnown c d → rank d ≤ rank (dimension_at (matrix_of last) c)) → all.matrix ≡ matrix_of last
   all_taken whole =
-      sym (all.only_of_points (matrix_of last) (near_decide x y is_x is_y w holds (matrix_of last)
+      sym (all.only_of_points (matrix_of last) (near_decide a b valid rule x y is_x is_y w holds (matrix_of last)
       (λ c. record { one = λ some. one c some (taken.only c); most = λ e h. whole c e h })))
     where
       one : (c : Cell) → dimension_at (matrix_of last) c ≢ Empty
@@ -129,9 +109,9 @@ module _ (a b : Figure) (valid : AreValid a b) (rule : Rule) (x y : Extent) (is_
       most : (c : Cell) (d : Dim) → IsKnown c d → rank d ≤ rank (dimension_at all.matrix c)
       most c d (inl e) =
           shown_at_most (IsInCell a b rule c) d (dimension_at all.matrix c)
-          (subst (ShowsDimension (IsInCell a b rule c)) (sym e) (is_there x y is_x is_y w holds c)) (all.of_points c)
+          (subst (ShowsDimension (IsInCell a b rule c)) (sym e) (beyond_is_there a b valid rule x y is_x is_y w holds c)) (all.of_points c)
       most c d (inr s) =
-          (all.of_samples c).most d (inr (record { v = s.v; is_node = few_is_node s.v s.is_node.0; sample = s.sample }))
+          (all.of_samples c).most d (inr (record { v = s.v; is_node = few_is_node s.is_node.0; sample = s.sample }))
 
   -- and so on each sample matrix
   pub value_on_samples : (m : Matrix) → IsSampleMatrix a b rule m → value_at last (matrix_of last) ≡ value_of query dim_a dim_b m

@@ -13,7 +13,7 @@ use Rattle.point_set.specs.Samples.{IsSample}
 use Rattle.point_set.specs.Shape.{dimension_of}
 use Rattle.point_set.specs.Visible.{AreValid}
 use Rattle.cell_laws.proofs.Cells.Matrix.{decided_by_samples}
-use Rattle.near_laws.specs.Near.{HoldsCommonPart, IsCommonPart, IsNearNode, LawNearDecide, beyond_cell, frame}
+use Rattle.near_laws.specs.Near.{HoldsCommonPart, IsCommonPart, IsNearNode, beyond_cell, frame}
 use Rattle.topo_pred.specs.Values.{value_of, value_at, matrix_of}
 use Rattle.topo_pred.specs.declared.Answer.{Answer}
 use Rattle.topo_pred.specs.declared.Progress.{Progress}
@@ -24,10 +24,7 @@ use Rattle.relate_core.specs.Looks.{AreLooksFew, IsNearRun}
 use Rattle.relate_core.specs.Taking.{HasTakenIn}
 use Rattle.relate_core.proofs.Answered.{value_is, value_on_samples, matrix_is, answer_is_matrix}
 use Rattle.relate_core.proofs.LooksAreFew.{looks_are_few}
-use Rattle.few_laws.proofs.Nodes.Crossings.{few_is_node}
-use Rattle.near_laws.proofs.Beyond.Shown.{beyond_is_there}
 use Rattle.near_laws.proofs.Boxes.Round.{near_window_decided}
-use Rattle.near_laws.proofs.Decide.Near.{near_decide}
 use Rattle.near_laws.proofs.Envelopes.Frames.{frames_hold_common_part}
 use Rattle.near_laws.proofs.Far.Shows.{far_shows_no_more}
 use Rattle.relate_core.proofs.Taking.{taken_either}
@@ -63,10 +60,6 @@ module _ (a b : Figure) (valid : AreValid a b) (rule : Rule) (query : Query) (x 
     taken =
         taken_either (λ c d. d ≡ beyond_cell x y w c) (IsSample (IsNearNode w a b) a b rule) fresh far last taken_far taken_near
 
-    -- the near nodes decide the cells
-    decide : LawNearDecide a b rule
-    decide = near_decide a b valid rule
-
     -- it is the value on the matrix of the two point sets
     pub answer_of_points : IsAnswerTo query a b rule answer
     answer_of_points = record {
@@ -74,7 +67,7 @@ module _ (a b : Figure) (valid : AreValid a b) (rule : Rule) (query : Query) (x 
       of_points = (decided_by_samples a b valid rule).of_points;
       answer_is =
           is
-          ∙ value_is a b valid rule x y is_x is_y w holds decide (beyond_is_there a b valid rule) (λ v few. few_is_node few) query
+          ∙ value_is a b valid rule x y is_x is_y w holds query
           (dimension_of a) (dimension_of b) fresh last value start taken;
     }
 
@@ -82,7 +75,7 @@ module _ (a b : Figure) (valid : AreValid a b) (rule : Rule) (query : Query) (x 
     pub answer_of_samples : IsValueOnSamples a b rule query answer
     answer_of_samples m of_samples =
         is
-        ∙ value_on_samples a b valid rule x y is_x is_y w holds decide (beyond_is_there a b valid rule) (λ v few. few_is_node few) query
+        ∙ value_on_samples a b valid rule x y is_x is_y w holds query
         (dimension_of a) (dimension_of b) fresh last value start taken m of_samples
 
     -- which is the answer itself where it is asked for
@@ -90,10 +83,10 @@ module _ (a b : Figure) (valid : AreValid a b) (rule : Rule) (query : Query) (x 
     answer_of_relate asks = record {
       m = matrix_of last;
       of_samples =
-          matrix_is a b valid rule x y is_x is_y w holds decide (beyond_is_there a b valid rule) (λ v few. few_is_node few) query
+          matrix_is a b valid rule x y is_x is_y w holds query
           (dimension_of a) (dimension_of b) fresh last value start taken asks;
       answer_is =
           is
-          ∙ answer_is_matrix a b valid rule x y is_x is_y w holds decide (beyond_is_there a b valid rule) (λ v few. few_is_node few) query
+          ∙ answer_is_matrix a b valid rule x y is_x is_y w holds query
           (dimension_of a) (dimension_of b) fresh last value start taken asks;
     }

@@ -19,9 +19,10 @@ use Rattle.point_set.specs.Nodes.{IsFewNode}
 use Rattle.point_set.specs.Samples.{IsSample, IsSampleAt, IsMatrixOfSamples}
 use Rattle.point_set.specs.Visible.{AreValid}
 use Rattle.cell_laws.proofs.Samples.Same.{sample_same}
+use Rattle.near_laws.proofs.Decide.Near.{greatest_at_most}
 use Rattle.near_laws.specs.Near.{IsNearNode, IsNearWindow}
 use Rattle.node_table.specs.declared.entry.Entry.{Entry}
-use Rattle.topo_pred.proofs.Matrices.{itself, everywhere, everywhere-most}
+use Rattle.topo_pred.proofs.Laws.{itself, everywhere, everywhere-most}
 use Rattle.topo_pred.specs.Later.{IsAtLeast}
 use Rattle.topo_pred.specs.Values.{value_of, value_at, matrix_of, IsOpen, IsSettled, asks_matrix, undecided}
 use Rattle.topo_pred.specs.declared.Answer.{Answer}
@@ -33,7 +34,7 @@ use Rattle.relate_core.specs.Looks.{IsOneOf, AreNodesInOrder, DecideQuery, AreLo
 use Rattle.relate_core.specs.Tables.{IsListed, IsTableOf}
 use Rattle.relate_core.specs.Taking.{HasTakenIn}
 use Rattle.relate_core.proofs.NearFew.{AreFirst, no_more_entries, first_entries}
-use Rattle.relate_core.proofs.SampleMatrices.{greatest_at_most, sample_matrix}
+use Rattle.relate_core.proofs.SampleMatrices.{sample_matrix}
 use Rattle.relate_core.proofs.SectorSamples.{not_everywhere}
 
 -- ---- answers

@@ -1,5 +1,5 @@
 -- A matrix of the samples at some points can't fail to exist.
-use Rattle.std.proofs.Common.{◌≡◌, ◌≤◌, ◌⊎◌, ℕ, refl, sym, subst, arith}
+use Rattle.std.proofs.Common.{◌≡◌, ◌≤◌, ◌⊎◌, refl, sym, subst, arith}
 use Rattle.im_matrix.proofs.Laws.{rank-most, matrix_by, dimension_at-matrix_by}
 use Rattle.im_matrix.specs.Cells.{rank, cell, start_dimension}
 use Rattle.im_matrix.specs.declared.Cell.{Cell}
@@ -14,13 +14,6 @@ use Rattle.point_set.specs.declared.rule.Rule.{Rule}
 use Rattle.point_set.specs.Samples.{IsGreatest, IsSample, IsMatrixOfSamples}
 
 -- ---- the greatest of some dimensions
--- it has at most a number that bounds the rank of each
-pub greatest_at_most : (Is : Dim → Type 0) (d : Dim) (n : ℕ) → IsGreatest Is d → ((e : Dim) → Is e → rank e ≤ n) → rank d ≤ n
-greatest_at_most Is Empty n g each = omega arith
-greatest_at_most Is Zero n g each = each Zero (g.one (λ e. cc))
-greatest_at_most Is One n g each = each One (g.one (λ e. cc))
-greatest_at_most Is Two n g each = each Two (g.one (λ e. cc))
-
 -- there can't be none: Two, or else One, or else Zero, or else Empty
 greatest_is : (Is : Dim → Type 0) → ¬ ¬ ((d : Dim) × IsGreatest Is d)
 greatest_is Is none = no_empty

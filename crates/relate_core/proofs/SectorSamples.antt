@@ -24,7 +24,7 @@ use Rattle.stay_laws.proofs.Stays.OffEdges.{interior_off_edges}
 use Rattle.cell_laws.proofs.Directions.Middles.{middle_in_sector, sector_free}
 use Rattle.cell_laws.proofs.Free.Nodes.{IsFree}
 use Rattle.cell_laws.proofs.Free.Ways.{HasFreeWay, free_along}
-use Rattle.topo_pred.proofs.Matrices.{everywhere}
+use Rattle.topo_pred.proofs.Laws.{everywhere}
 
 -- ---- off the edges
 -- a point on no edge of lines is on no line

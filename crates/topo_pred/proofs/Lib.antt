@@ -1,3 +1,4 @@
+pub mod Laws
 pub mod Matrices
 pub mod CellTests
 pub mod KnownTests

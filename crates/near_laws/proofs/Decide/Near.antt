@@ -28,7 +28,7 @@ use Rattle.near_laws.proofs.Far.Shows.{far_shows_no_more}
 
 -- ---- ranks
 -- what a set shows is no more than its dimension
-shown_at_most : (Set : Point → Type 0) (d e : Dim) → ShowsDimension Set d → IsDimension Set e → rank d ≤ rank e
+pub shown_at_most : (Set : Point → Type 0) (d e : Dim) → ShowsDimension Set d → IsDimension Set e → rank d ≤ rank e
 shown_at_most Set Empty e shown is = omega arith
 shown_at_most Set Two Two t is = omega arith
 shown_at_most Set Two One t is = absurd (is.0 t)
@@ -44,7 +44,7 @@ shown_at_most Set Zero Zero p is = omega arith
 shown_at_most Set Zero Empty p is = absurd (is p)
 
 -- a greatest dimension has at most a rank that bounds each of which it is the greatest
-greatest_at_most : (Is : Dim → Type 0) (d : Dim) (n : ℕ) → IsGreatest Is d → ((e : Dim) → Is e → rank e ≤ n) → rank d ≤ n
+pub greatest_at_most : (Is : Dim → Type 0) (d : Dim) (n : ℕ) → IsGreatest Is d → ((e : Dim) → Is e → rank e ≤ n) → rank d ≤ n
 greatest_at_most Is Empty n g each = omega arith
 greatest_at_most Is Zero n g each = each Zero (g.one (λ e. cc))
 greatest_at_most Is One n g each = each One (g.one (λ e. cc))
