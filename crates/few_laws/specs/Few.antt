@@ -1,5 +1,5 @@
 -- The few nodes show what all nodes show.
-use Rattle.std.specs.Prelude.{◌≤◌, ◌⊎◌}
+use Rattle.std.specs.Prelude.{◌≤◌}
 use Rattle.im_matrix.specs.Cells.{rank}
 use Rattle.im_matrix.specs.declared.Cell.{Cell}
 use Rattle.im_matrix.specs.declared.Dim.{Dim}
@@ -9,10 +9,6 @@ use Rattle.point_set.specs.declared.figure.Figure.{Figure}
 use Rattle.point_set.specs.declared.rule.Rule.{Rule}
 use Rattle.point_set.specs.Nodes.{IsNode, IsFewNode}
 use Rattle.point_set.specs.Samples.{IsSample, IsSampleAt, IsMatrixOfSamples, IsSampleMatrix}
-
--- Whether a point is one of the few nodes is decided.
-abbrev pub LawFewNodeIsDecided : Type 0
-LawFewNodeIsDecided = (a b : Figure) (p : Point) → IsFewNode a b p ⊎ (¬ IsFewNode a b p)
 
 -- A dimension of at least d, with a sample of it at one of the few nodes.
 pub record IsSeenAtFew (a b : Figure) (rule : Rule) (c : Cell) (d : Dim) : Type 0 where

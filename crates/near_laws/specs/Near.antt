@@ -30,7 +30,7 @@ is_within inner outer =
     (int_le outer.low_x inner.low_x && int_le inner.high_x outer.high_x)
     && (int_le outer.low_y inner.low_y && int_le inner.high_y outer.high_y)
 
--- Whether a box, where there is one, has a part outside of another; no box holds nothing.
+-- Whether a box, where there is one, has a part outside of another; where there is no other, all of it is outside.
 abbrev pub sticks_out : Option Window → Option Window → Bool
 sticks_out None w = false
 sticks_out (Some box) None = true
@@ -77,7 +77,7 @@ abbrev pub IsNearWindow : Option Window → Point → Type 0
 IsNearWindow None v = ⊥
 IsNearWindow (Some w) v = IsNearBox w v
 
--- A few node that is near.
+-- One of the few nodes that is near a box, where there is one.
 abbrev pub IsNearNode : Option Window → Figure → Figure → Point → Type 0
 IsNearNode w a b v = IsFewNode a b v × IsNearWindow w v
 
@@ -95,7 +95,7 @@ boundary_by true ends = One
 boundary_by false true = Zero
 boundary_by false false = Empty
 
--- The dimension of what a part of a figure has outside of a box.
+-- The dimension of what a part of a figure has outside of a box. Of the exterior nothing is told here.
 abbrev pub beyond : Extent → Option Window → Loc → Dim
 beyond x w Interior = interior_by (sticks_out x.areas w) (sticks_out x.lines w) (sticks_out x.points w)
 beyond x w Boundary = boundary_by (sticks_out x.areas w) (sticks_out x.ends w)
@@ -142,7 +142,7 @@ LawNearDecide a b rule =
     → ((c : Cell) → IsGreatest (λ d. (d ≡ beyond_cell x y w c) ⊎ IsSample (IsNearNode w a b) a b rule c d) (dimension_at m c))
     → IsMatrixOf a b rule m
 
--- The edges that meet a box are all that hold a point near it.
+-- Each edge that holds a point near a box meets the box.
 abbrev pub LawNearEdgesMeet : Figure → Type 0
 LawNearEdgesMeet f =
     (w : Window) (v : Point) → IsNearBox w v → (place : ℕ) (edge : OwnedEdge) → IsAtPlace (edges_of_figure f) place edge

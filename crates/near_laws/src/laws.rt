@@ -6,8 +6,8 @@ ghost use Rattle.near_laws.specs.Near.{LawBeyondIsThere, LawFarShowsNoMore, LawF
 use point_set::{Rule, Valid};
 
 /// The envelope of a whole figure holds all of it. Where a box holds the common part of two figures, what their envelopes tell of
-/// each cell is there, a point that isn't near the box shows no more than that, and the few nodes near it decide the rest. The edges
-/// that meet a box are all that hold a point near it.
+/// each cell is there, a point that isn't near the box shows no more than that, and the few nodes near it decide the rest. Each
+/// edge that holds a point near a box meets the box.
 pub fn law_near(a: &Valid, b: &Valid, rule: Rule)
     ensures frame { LawFrameHolds a.now rule }
     ensures beyond { LawBeyondIsThere a.now b.now rule }

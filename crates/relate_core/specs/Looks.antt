@@ -1,4 +1,4 @@
--- How often the figures are looked at: as often as nodes are needed to know the value of a query, and no more.
+-- How often the figures are looked at: no more often than nodes are needed to know the value of a query.
 use Rattle.std.specs.Prelude.{◌≡◌, ◌≤◌, ◌<◌, ◌+◌, ℕ, Option, List, take, length}
 use Rattle.std.specs.List.{All, AllPairs, Any}
 use Rattle.std.specs.declared.cmp.Ordering.TheVariants.{Less}

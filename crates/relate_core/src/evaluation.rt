@@ -16,8 +16,8 @@ use std::alloc::Global;
 use topo_pred::{Answer, Progress, Query};
 
 /// The answer to a query on two figures: its value on their matrix. What the envelopes of the figures tell comes first, and then the
-/// nodes where they meet, in order, until the value is known: each figure is looked at no more often than nodes are needed to know
-/// it.
+/// few nodes near the common part of their frames, in order, until the value is known: each figure is looked at no more often than
+/// the first few nodes are that decide it.
 ///
 /// # Errors
 /// `NoMemory`.

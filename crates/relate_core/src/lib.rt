@@ -1,5 +1,5 @@
-//! The relation of two figures: their nodes with the sections of both figures' edges at them, and the samples there, which decide
-//! the answer to a query.
+//! The relation of two figures: what their envelopes tell of what is far, their few nodes near both with the sections of both
+//! figures' edges at them, and the samples there, which decide the answer to a query.
 #![tactic(auto)]
 
 mod edges;

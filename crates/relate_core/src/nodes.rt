@@ -120,7 +120,7 @@ fn add_ends(nodes: &mut NodeTable, edges: &SegList, w: Window) -> Result<(), NoM
 }
 
 /// Puts the only common points of edges of a figure with all its edges in where they are near a box, if it has areas: without any,
-/// where its edges cross shows nothing that its other nodes don't.
+/// where its edges cross shows nothing that the few nodes don't.
 fn add_own_crossings<T: Target>(
     alloc: Global,
     nodes: &mut NodeTable,

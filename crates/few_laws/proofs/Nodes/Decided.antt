@@ -15,7 +15,6 @@ use Rattle.node_laws.proofs.Nodes.Decided.{Cross, cross_or_not, cross_only, only
 use Rattle.node_laws.proofs.Nodes.Finite.{nodes_are_finite}
 use Rattle.node_laws.proofs.Nodes.Positions.{positions_of_both}
 use Rattle.cell_laws.proofs.Samples.Decided.{Decided}
-use Rattle.few_laws.specs.Few.{LawFewNodeIsDecided}
 use Rattle.few_laws.proofs.Nodes.Crossings.{crossing_of, few_is_node, few_same}
 
 -- ---- edges of which none ends at a point
@@ -112,10 +111,6 @@ few_decided a b p = by_test (is_at_some p (positions_of_both a b)) refl
     by_test : (t : Bool) → is_at_some p (positions_of_both a b) ≡ t → Decided (IsFewNode a b p)
     by_test true at = inl (position at)
     by_test false nowhere = decided_elsewhere a b p nowhere
-
--- in the words of the law
-pub few_node_decided : LawFewNodeIsDecided
-few_node_decided = few_decided
 
 -- ---- all of them stand in a list
 -- each of the list is a few node, and each few node is the same point as one of the list

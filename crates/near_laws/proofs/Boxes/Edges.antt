@@ -45,7 +45,7 @@ edge_meets w v near e on = record {
   common = record { point = near.common.point; here = holds_near e (box_of e) (box_least e) w v near on; there = near.common.there };
 }
 
--- so the edges that meet a box are all that hold a point near it
+-- so each edge of a figure that holds a point near a box meets the box
 pub near_edges_meet : (f : Figure) → LawNearEdgesMeet f
 near_edges_meet f w v near place edge is holds =
     record { edge = edge; edge_is = is; meets = edge_meets w v near edge.seg (on_true {p = v} {f = edge.seg} holds) }
