@@ -88,7 +88,9 @@ near_decide a b valid rule x y is_x is_y w holds m greatest c =
 
     -- the few nodes show no more: the near ones by what m is, the far ones by what the envelopes tell
     below : rank (dimension_at all.matrix c) ≤ rank (dimension_at m c)
-    below = greatest_at_most Seen (dimension_at all.matrix c) (rank (dimension_at m c)) ((law_few_holds a b valid rule all.matrix).1 all.of_samples c) each
+    below =
+        greatest_at_most Seen (dimension_at all.matrix c) (rank (dimension_at m c))
+        ((law_few_holds a b valid rule all.matrix).1 all.of_samples c) each
       where
         Seen : Dim → Type 0
         Seen d = (d ≡ start_dimension c) ⊎ IsSample (IsFewNode a b) a b rule c d
