@@ -8,6 +8,10 @@ use Rattle.std.proofs.lemmas.List.{length-map}
 pub seen_within : {X Y : Type 0} (f : X → Y) (xs : List X) (i : ℕ) → i < length xs → i < length (map f xs)
 seen_within f xs i within = subst (λ n. i < n) (sym (length-map xs f)) within
 
+-- and past the last item it is past the last of them
+pub seen_past : {X Y : Type 0} (f : X → Y) (xs : List X) (i : ℕ) → length xs ≤ i → length (map f xs) ≤ i
+seen_past f xs i past = subst (λ n. n ≤ i) (sym (length-map xs f)) past
+
 -- what is seen of one item is at its place in what is seen of all
 pub item_seen : {X Y : Type 0} (f : X → Y) (xs : List X) (ys : List Y) (i : ℕ) (d : X) → map f xs ≡ ys
     → f (get_or xs i d) ≡ get_or ys i (f d)

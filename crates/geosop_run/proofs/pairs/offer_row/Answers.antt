@@ -1,13 +1,12 @@
 -- Each line that was written adds to what was taken, and one that wasn't leaves a front of it.
-use Rattle.std.proofs.Common.{◌+◌, ◌∙◌, Err, subst, map, drop, get_or, arith}
-use Rattle.std.proofs.lemmas.List.{length-map}
+use Rattle.std.proofs.Common.{◌+◌, ◌∙◌, Err, subst, map, drop, get_or}
 use Rattle.std.proofs.lemmas.Result.{err_from_is_err_and}
 use Rattle.std.proofs.lemmas.List.Elements.{All-drop}
 use Rattle.std.proofs.Math.Seq.{map-set_same}
 use Rattle.point_set.specs.declared.figure.Figure.{Figure}
 use Rattle.geosop_run.specs.Sources.{IsSound}
 use Rattle.geosop_run.specs.Text.{IsLineOf, IsRowOf, IsTextWritten}
-use Rattle.geosop_run.proofs.Kept.{item_holds, item_seen, seen_within}
+use Rattle.geosop_run.proofs.Kept.{item_holds, item_seen, seen_past, seen_within}
 use Rattle.geosop_run.proofs.Parts.{text_unbegun, text_ended, text_written, taken_more}
 use Rattle.geosop_run.proofs.SomeText.{some_row}
 use Rattle.geosop_run.proofs.pairs.offer_row.Goals as goal
@@ -70,4 +69,4 @@ pub returns-clause-written : goal.returns-clause-written
 returns-clause-written g c =
     let figures = map (λ b. b.figure) c.args.in_b.now in
     text_written (IsLineOf c.args.asked.rule c.args.asked.query c.args.a.now) figures c.loop-of_b.of_b-index _ _
-    (omega (arith, length-map (λ b. b.figure) c.args.in_b.now, c.loop-of_b-test.false)) c.loop-of_b.invariant.lines
+    (seen_past (λ b. b.figure) c.args.in_b.now c.loop-of_b.of_b-index c.loop-of_b-test.false) c.loop-of_b.invariant.lines
