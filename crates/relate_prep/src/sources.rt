@@ -1,12 +1,20 @@
 ghost use Rattle.std.specs.Prelude.{◌≡◌, ◌≤◌, ◌<◌, length, IfOk};
 ghost use Rattle.relate_prep.specs.Cells.{area_edges};
 
-use crate::asked::Source;
+use crate::asked::{Indexed, Source};
 use area_locator::AreaIndex;
 use edge_index::EdgeIndex;
 use plane_exact::{NoMemory, SegList};
 use point_set::Valid;
 use std::alloc::Global;
+
+impl Indexed for EdgeIndex {
+    ghost edges = { λ index. index.segs };
+}
+
+impl Indexed for AreaIndex {
+    ghost edges = { λ index. index };
+}
 
 /// All edges of a figure.
 #[derive(Clone, Copy)]
@@ -17,8 +25,6 @@ pub(crate) struct AllEdges<'a> {
 }
 
 impl Source<EdgeIndex> for AllEdges<'_> {
-    ghost edges = { λ index. index.segs };
-
     ghost wanted = { λ s. s.segs.now };
 
     fn build(&self) -> Result<EdgeIndex, NoMemory> {
@@ -40,8 +46,6 @@ pub(crate) struct AreaEdges<'a> {
 }
 
 impl Source<AreaIndex> for AreaEdges<'_> {
-    ghost edges = { λ index. index };
-
     ghost wanted = { λ s. area_edges s.valid.now s.area };
 
     fn build(&self) -> Result<AreaIndex, NoMemory> {
