@@ -3,7 +3,12 @@
 #![tactic(auto)]
 
 mod asked;
+mod basis;
 mod origin;
+mod prepared;
+mod session;
 mod sources;
 
 pub use origin::Origin;
+pub use prepared::Prepared;
+pub use session::Session;
