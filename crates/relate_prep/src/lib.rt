@@ -8,6 +8,8 @@ mod origin;
 mod prepared;
 mod session;
 mod sources;
+#[cfg(test)]
+mod tests;
 
 pub use origin::Origin;
 pub use prepared::Prepared;
