@@ -1,5 +1,5 @@
 -- What a session sees of the cells that it shares with others.
-use Rattle.std.specs.Prelude.{◌≡◌, ⊤, ℕ, List, [], Option, Some, None, slice_get, IfSome, map, length}
+use Rattle.std.specs.Prelude.{◌≡◌, ⊤, ℕ, List, [], Option, Some, None, slice_get, map, length}
 use Rattle.plane_exact.specs.declared.point.Seg.{Seg}
 use Rattle.edge_index.specs.Segments.{IsFirstDifference}
 use Rattle.area_locator.specs.Indexed.{edges_of_area}

@@ -1,4 +1,3 @@
-use Rattle.std.proofs.Common.{◌≡◌}
 use Rattle.relate_prep.proofs.Knowing.{same_known}
 use Rattle.relate_prep.proofs.asked.seen.Goals as goal
 
