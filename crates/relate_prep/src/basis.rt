@@ -1,0 +1,78 @@
+ghost use Rattle.std.specs.Prelude.{◌≡◌, IfOk};
+ghost use Rattle.union_locator.specs.Plains.{segs_of};
+
+use bound_rule::EndTable;
+use figure_extent::Extents;
+use plane_exact::{NoMemory, SegList};
+use point_set::{EdgeRows, Valid};
+use ring_sides::edges_of;
+use std::alloc::Global;
+use std::marker::Model;
+
+/// A valid figure, and what is made of it at once.
+#[derive(Drop)]
+pub(crate) struct Basis {
+    pub(crate) valid: Valid,
+    /// The figure's edges, each with its owner and its hand.
+    pub(crate) rows: EdgeRows,
+    /// The same edges alone.
+    pub(crate) segs: SegList,
+    /// The ends of the lines, and the spots.
+    pub(crate) ends: EndTable,
+    pub(crate) extents: Extents,
+}
+
+impl Model for Basis {
+    ghost use Rattle.relate_prep.specs.Prepared.{SeenBasis, IsBasis};
+
+    ghost Value = { SeenBasis };
+
+    ghost view = { λ b. record {
+      figure = b.valid;
+      rows = b.rows;
+      segs = b.segs;
+      ends = b.ends;
+      extents = b.extents;
+    } };
+
+    ghost invariant = { λ b. IsBasis (record {
+      figure = b.valid;
+      rows = b.rows;
+      segs = b.segs;
+      ends = b.ends;
+      extents = b.extents;
+    }) };
+}
+
+impl Basis {
+    /// Makes what every session of a figure uses.
+    ///
+    /// # Errors
+    /// `NoMemory`, and then the figure is let go.
+    pub(crate) fn new(alloc: Global, valid: Valid) -> Result<Basis, NoMemory>
+        ensures figure { IfOk result (λ basis. basis.figure ≡ valid) }
+    {
+        let rows = edges_of(alloc, &valid)?;
+        let segs = segs_of(alloc, &rows)?;
+        let ends = EndTable::build(alloc, &valid)?;
+        let extents = Extents::of(&valid, &ends);
+        Ok(Basis {
+            valid,
+            rows,
+            segs,
+            ends,
+            extents,
+        })
+    }
+}
+
+/// The segments of rows.
+fn segs_of(alloc: Global, rows: &EdgeRows) -> Result<SegList, NoMemory>
+    ensures segs { IfOk result (λ segs. segs ≡ segs_of rows.now) }
+{
+    let mut segs = SegList::new(alloc);
+    for row in rows.as_slice() {
+        segs.push(row.seg)?;
+    }
+    Ok(segs)
+}
