@@ -14,23 +14,26 @@ impl Target for Session<'_> {
     ghost looks = { λ s. 0 };
 
     fn valid(&self) -> &Valid {
-        &self.basis.valid
+        let basis = self.basis;
+        &basis.valid
     }
 
     fn edge(&self, id: EdgeId) -> Edge {
-        *self.basis.rows.at(id.place as usize)
+        let basis = self.basis;
+        *basis.rows.at(id.place as usize)
     }
 
     fn locate(&mut self, n: &Node, rule: Rule) -> Result<DimLoc, NoMemory> {
         self.ask_edges()?;
+        let basis = self.basis;
         places_in(
             self.edge.index(),
-            &self.basis.rows,
+            &basis.rows,
             Window::round(n),
             &mut self.near,
             &mut self.looks,
         )?;
-        locate_plainly(self.alloc, self.basis, &self.near, n, rule)
+        locate_plainly(self.alloc, basis, &self.near, n, rule)
     }
 
     /// Makes `out` the places of exactly the edges whose windows meet `w`, ascending. It asks for the index of all edges.
@@ -45,10 +48,12 @@ impl Target for Session<'_> {
         ensures areas { self.new.areas ≡ self.old.areas }
     {
         self.ask_edges()?;
-        places_in(self.edge.index(), &self.basis.rows, w, out, &mut self.looks)
+        let basis = self.basis;
+        places_in(self.edge.index(), &basis.rows, w, out, &mut self.looks)
     }
 
     fn extent(&self, rule: Rule) -> Extent {
-        self.basis.extents.extent(rule)
+        let basis = self.basis;
+        basis.extents.extent(rule)
     }
 }
