@@ -1,2 +1,6 @@
+mod AskingCells
+mod BeyondShells
+mod BoxLists
 mod Knowing
 mod NewSessions
+mod RingBoxes

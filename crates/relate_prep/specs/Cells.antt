@@ -46,6 +46,11 @@ pub record IsLater (old new : SeenCell) : Type 0 where
   pub known : IsKept old.known new.known
   pub origin : ¬ (old.origin ≡ Unused) → new.origin ≡ old.origin
 
+-- The same cells, later, in order.
+pub record AreLater (old new : List SeenCell) : Type 0 where
+  pub count : length new ≡ length old
+  pub each : (place : ℕ) (c d : SeenCell) → IsAtPlace old place c → IsAtPlace new place d → IsLater c d
+
 -- The cell was asked for.
 abbrev pub WasAsked : SeenCell → Type 0
 WasAsked c = ¬ (c.origin ≡ Unused)

@@ -2,11 +2,13 @@
 //! made by the session that first asks for them, and stand in cells that are set once, so that threads share them without a lock.
 #![tactic(auto)]
 
+mod areas;
 mod asked;
 mod basis;
 mod origin;
 mod prepared;
 mod session;
+mod shells;
 mod sources;
 #[cfg(test)]
 mod tests;
