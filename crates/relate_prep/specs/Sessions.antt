@@ -7,7 +7,7 @@ use Rattle.point_set.specs.declared.figure.Area.{Area}
 use Rattle.point_set.specs.declared.figure.Figure.{Figure}
 use Rattle.point_set.specs.Shape.{IsWellShaped}
 use Rattle.point_set.specs.Validity.{IsAtPlace, IsValid}
-use Rattle.relate_prep.specs.Cells.{SeenCell, IsCellOver, AreAreaCells, WasAsked, new_cell}
+use Rattle.relate_prep.specs.Cells.{SeenCell, IsCellOver, AreAreaCells, KnowTheSame, WasAsked, names_of, new_cell}
 use Rattle.relate_prep.specs.Prepared.{SeenPrepared}
 use Rattle.relate_prep.specs.Shells.{AreShellBoxes, IsShellNear}
 
@@ -27,6 +27,17 @@ pub record IsNewSession (p : SeenPrepared) (s : SeenSession) : Type 0 where
 pub record IsSession (segs : List Seg) (edge_cell : ℕ) (area_cells : List ℕ) (s : SeenSession) : Type 0 where
   pub edge : IsCellOver segs edge_cell s.edge
   pub areas : AreAreaCells s.figure area_cells s.areas
+
+-- Two sessions of one prepared figure: they have the same figure, and the cells of both have the same names.
+pub record AreOfOnePrepared (one other : SeenSession) : Type 0 where
+  pub figure : one.figure ≡ other.figure
+  pub edge : one.edge.name ≡ other.edge.name
+  pub areas : names_of one.areas ≡ names_of other.areas
+
+-- Cells in two lists: where both know the value of the cell at a place, the values have the same edges.
+abbrev pub KnowTheSameEach : List SeenCell → List SeenCell → Type 0
+KnowTheSameEach cells others =
+    (place : ℕ) (one other : SeenCell) → IsAtPlace cells place one → IsAtPlace others place other → KnowTheSame one other
 
 -- A figure, the boxes of its areas' shells, and what is known of the cells of its areas.
 pub record SeenAreas : Type 0 where

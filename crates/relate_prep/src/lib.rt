@@ -5,11 +5,13 @@
 mod areas;
 mod asked;
 mod basis;
+mod edges;
 mod origin;
 mod prepared;
 mod session;
 mod shells;
 mod sources;
+mod target;
 #[cfg(test)]
 mod tests;
 
