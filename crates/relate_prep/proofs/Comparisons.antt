@@ -11,7 +11,7 @@ use Rattle.relate_prep.specs.Cells.{SeenCell, KnowTheSame, names_of}
 use Rattle.relate_prep.specs.Sessions.{KnowTheSameEach}
 
 -- the name of a cell
-name_of : SeenCell → ℕ
+abbrev name_of : SeenCell → ℕ
 name_of c = c.name
 
 module _ (cells others : List SeenCell) (names : names_of cells ≡ names_of others) where
@@ -25,7 +25,7 @@ module _ (cells others : List SeenCell) (names : names_of cells ≡ names_of oth
       some_same
       (sym (image_at name_of cells place one is) ∙ ap (λ (xs : List ℕ). slice_get xs place) names ∙ image_at name_of others place other is')
 
--- The cells below k know the same.
+-- Both know the same of each cell below k.
 abbrev pub KnowTheSameBelow : List SeenCell → List SeenCell → ℕ → Type 0
 KnowTheSameBelow cells others k =
     (place : ℕ) (one other : SeenCell) → place < k → IsAtPlace cells place one → IsAtPlace others place other → KnowTheSame one other

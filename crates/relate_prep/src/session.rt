@@ -81,9 +81,10 @@ impl<'a> Session<'a> {
         ensures later { IsLater self.old.edge self.new.edge }
         ensures areas { self.new.areas ≡ self.old.areas }
     {
+        let basis = self.basis;
         let source = AllEdges {
             alloc: self.alloc,
-            segs: &self.basis.segs,
+            segs: &basis.segs,
         };
         self.edge.ask(self.alloc, self.edge_cell, &source)
     }

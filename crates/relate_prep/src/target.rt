@@ -17,11 +17,13 @@ impl Target for Session<'_> {
     ghost looks = { λ s. 0 };
 
     fn valid(&self) -> &Valid {
-        &self.basis.valid
+        let basis = self.basis;
+        &basis.valid
     }
 
     fn edge(&self, id: EdgeId) -> Edge {
-        *self.basis.rows.at(id.place as usize)
+        let basis = self.basis;
+        *basis.rows.at(id.place as usize)
     }
 
     /// Where a node lies, with the kind of element that decides. It asks for the index of all edges, and for that of each area whose
@@ -77,10 +79,12 @@ impl Target for Session<'_> {
         ensures areas { self.new.areas ≡ self.old.areas }
     {
         self.ask_edges()?;
-        places_in(self.edge.index(), &self.basis.rows, w, out, &mut self.looks)
+        let basis = self.basis;
+        places_in(self.edge.index(), &basis.rows, w, out, &mut self.looks)
     }
 
     fn extent(&self, rule: Rule) -> Extent {
-        self.basis.extents.extent(rule)
+        let basis = self.basis;
+        basis.extents.extent(rule)
     }
 }
