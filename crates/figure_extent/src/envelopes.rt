@@ -29,8 +29,8 @@ pub(crate) fn joined(one: Option<Window>, other: Option<Window>) -> Option<Windo
     }
 }
 
-/// The envelope of the positions of a way.
-pub(crate) fn of_way(way: &Path) -> Option<Window>
+/// The envelope of the positions of a way. Takes no memory.
+pub fn of_way(way: &Path) -> Option<Window>
     ensures envelope { IsEnvelope way.now result }
 {
     let mut envelope = None;

@@ -8,4 +8,5 @@ mod parts;
 #[cfg(test)]
 mod tests;
 
+pub use envelopes::of_way;
 pub use extents::Extents;

@@ -50,6 +50,11 @@ pub record IsLater (old new : SeenCell) : Type 0 where
 abbrev pub KnowTheSame : SeenCell → SeenCell → Type 0
 KnowTheSame one other = (edges others : List Seg) → one.known ≡ Some edges → other.known ≡ Some others → edges ≡ others
 
+-- The same cells, later, in order.
+pub record AreLater (old new : List SeenCell) : Type 0 where
+  pub count : length new ≡ length old
+  pub each : (place : ℕ) (c d : SeenCell) → IsAtPlace old place c → IsAtPlace new place d → IsLater c d
+
 -- The cell was asked for.
 abbrev pub WasAsked : SeenCell → Type 0
 WasAsked c = ¬ (c.origin ≡ Unused)

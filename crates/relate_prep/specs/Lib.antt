@@ -1,3 +1,4 @@
 pub mod Cells
 pub mod Prepared
 pub mod Sessions
+pub mod Shells

@@ -2,6 +2,7 @@
 use Rattle.std.specs.Prelude.{◌≡◌, ℕ, ◌≤◌, List, length}
 use Rattle.std.specs.List.{All}
 use Rattle.plane_exact.specs.declared.point.Seg.{Seg}
+use Rattle.plane_exact.specs.declared.window.Window.{Window}
 use Rattle.point_set.specs.declared.edge.Edge.{Edge}
 use Rattle.point_set.specs.declared.figure.Figure.{Figure}
 use Rattle.point_set.specs.declared.rule.Rule.{Rule}
@@ -13,17 +14,19 @@ use Rattle.bound_rule.specs.Ends.{SeenEnds, AreEndsOf}
 use Rattle.figure_extent.specs.Kept.{SeenExtents, extent_under}
 use Rattle.ring_sides.specs.Rows.{owned_edges, HasItsHand}
 use Rattle.union_locator.specs.Plains.{segs_of}
+use Rattle.relate_prep.specs.Shells.{AreShellBoxes}
 
--- A figure, its edges with their owners and hands, its edges alone, its line ends and its envelopes.
+-- A figure, its edges with their owners and hands, its edges alone, its line ends, its envelopes and the boxes of its areas' shells.
 pub record SeenBasis : Type 0 where
   pub figure : Figure
   pub rows : List Edge
   pub segs : List Seg
   pub ends : SeenEnds
   pub extents : SeenExtents
+  pub shells : List Window
 
 -- The figure is valid, the edges are its edges in order, each with its hand, the line ends and spots are the figure's, and so are
--- the envelopes under every rule.
+-- the envelopes under every rule and the boxes of the shells.
 pub record IsBasis (seen : SeenBasis) : Type 0 where
   pub shaped : IsWellShaped seen.figure
   pub valid : IsValid seen.figure
@@ -33,6 +36,7 @@ pub record IsBasis (seen : SeenBasis) : Type 0 where
   pub alone : seen.segs ≡ segs_of seen.rows
   pub ends : AreEndsOf seen.figure seen.ends
   pub extents : (rule : Rule) → IsExtent seen.figure rule (extent_under rule seen.extents)
+  pub shells : AreShellBoxes seen.figure.areas seen.shells
 
 -- A figure, and the names of the cells of its indexes: of the one over all its edges, and of those of its areas.
 pub record SeenPrepared : Type 0 where

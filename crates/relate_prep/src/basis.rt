@@ -1,5 +1,6 @@
 ghost use Rattle.std.specs.Prelude.{◌≡◌, IfOk};
 
+use crate::shells::{BoxList, shells_of};
 use bound_rule::EndTable;
 use figure_extent::Extents;
 use plane_exact::{NoMemory, SegList};
@@ -20,6 +21,8 @@ pub(crate) struct Basis {
     /// The ends of the lines, and the spots.
     pub(crate) ends: EndTable,
     pub(crate) extents: Extents,
+    /// The box of the shell of each area.
+    pub(crate) shells: BoxList,
 }
 
 impl Model for Basis {
@@ -33,6 +36,7 @@ impl Model for Basis {
       segs = b.segs;
       ends = b.ends;
       extents = b.extents;
+      shells = b.shells;
     } };
 
     ghost invariant = { λ b. IsBasis (record {
@@ -41,6 +45,7 @@ impl Model for Basis {
       segs = b.segs;
       ends = b.ends;
       extents = b.extents;
+      shells = b.shells;
     }) };
 }
 
@@ -56,12 +61,14 @@ impl Basis {
         let segs = segs_of(alloc, &rows)?;
         let ends = EndTable::build(alloc, &valid)?;
         let extents = Extents::of(&valid, &ends);
+        let shells = shells_of(alloc, valid.figure())?;
         Ok(Basis {
             valid,
             rows,
             segs,
             ends,
             extents,
+            shells,
         })
     }
 }

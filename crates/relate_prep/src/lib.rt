@@ -9,6 +9,7 @@ mod edges;
 mod origin;
 mod prepared;
 mod session;
+mod shells;
 mod sources;
 mod target;
 #[cfg(test)]

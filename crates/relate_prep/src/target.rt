@@ -1,13 +1,16 @@
-use crate::areas::locate_plainly;
+use crate::areas::{ask_near, locate_asked};
 use crate::edges::places_in;
 use crate::session::Session;
 use plane_exact::{NoMemory, Node, PlaceList, Window};
 use point_set::{DimLoc, Edge, EdgeId, Extent, Rule, Target, Valid};
 
 impl Target for Session<'_> {
-    ghost use Rattle.std.specs.Prelude.{◌≡◌, OnOk};
+    ghost use Rattle.std.specs.Prelude.{◌≡◌, IfOk, OnOk};
+    ghost use Rattle.plane_exact.specs.NodePoints.{point_at};
     ghost use Rattle.point_set.specs.Edges.{ArePlacesIn, edges_of_figure};
-    ghost use Rattle.relate_prep.specs.Cells.{IsLater, WasAsked};
+    ghost use Rattle.point_set.specs.Location.{IsKind};
+    ghost use Rattle.relate_prep.specs.Cells.{AreLater, IsLater, WasAsked};
+    ghost use Rattle.relate_prep.specs.Sessions.{AreAskedNear, AreKeptFar};
 
     ghost figure = { λ s. s.figure };
 
@@ -23,7 +26,20 @@ impl Target for Session<'_> {
         *basis.rows.at(id.place as usize)
     }
 
-    fn locate(&mut self, n: &Node, rule: Rule) -> Result<DimLoc, NoMemory> {
+    /// Where a node lies, with the kind of element that decides. It asks for the index of all edges, and for that of each area whose
+    /// shell's box meets the least box round the node.
+    ///
+    /// # Errors
+    /// `NoMemory`, and then what was asked before is known.
+    fn locate(&mut self, n: &Node, rule: Rule) -> Result<DimLoc, NoMemory>
+        ensures kind { IfOk result (IsKind self.new.figure rule (point_at n.now)) }
+        ensures figure { self.new.figure ≡ self.old.figure }
+        ensures edge_asked { OnOk result (WasAsked self.new.edge) }
+        ensures edge_later { IsLater self.old.edge self.new.edge }
+        ensures areas_asked { OnOk result (AreAskedNear self.new.figure.areas (point_at n.now) self.new.areas) }
+        ensures areas_later { AreLater self.old.areas self.new.areas }
+        ensures areas_kept { AreKeptFar self.new.figure.areas (point_at n.now) self.old.areas self.new.areas }
+    {
         self.ask_edges()?;
         let basis = self.basis;
         places_in(
@@ -33,7 +49,22 @@ impl Target for Session<'_> {
             &mut self.near,
             &mut self.looks,
         )?;
-        locate_plainly(self.alloc, basis, &self.near, n, rule)
+        ask_near(
+            self.alloc,
+            &basis.valid,
+            &basis.shells,
+            self.area_cells,
+            n,
+            self.areas.as_mut_slice(),
+        )?;
+        locate_asked(
+            self.alloc,
+            basis,
+            self.areas.as_slice(),
+            &self.near,
+            n,
+            rule,
+        )
     }
 
     /// Makes `out` the places of exactly the edges whose windows meet `w`, ascending. It asks for the index of all edges.

@@ -1,0 +1,13 @@
+-- Each cell is the one of its area, and the cells of the near areas before the place were asked for.
+use Rattle.std.specs.Prelude.{map}
+use Rattle.once_cell.specs.Once.{cell_name}
+use Rattle.plane_exact.specs.NodePoints.{point_at}
+use Rattle.relate_prep.specs.Cells.{AreAreaCells}
+use Rattle.relate_prep.proofs.AskingCells.{AreAskedTo}
+use Rattle.relate_prep.proofs.areas.ask_near.Given as goal
+
+abbrev pub invariant-loop-place : goal.invariant-loop-place
+invariant-loop-place l = record {
+  cells : AreAreaCells l.valid (map cell_name l.cells) l.asked;
+  to : AreAskedTo l.valid.areas (point_at l.n) l.fn.asked l.asked l.place;
+}
