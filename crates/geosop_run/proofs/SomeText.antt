@@ -1,5 +1,5 @@
 -- Pairs of sound figures have lines, rows and texts, whatever is asked of them.
-use Rattle.std.proofs.Common.{ℕ, List, [], ◌∷◌, refl, ap, arith}
+use Rattle.std.proofs.Common.{ℕ, suc, List, [], ◌∷◌, refl, ap, arith}
 use Rattle.std.specs.List.{All, flat_map}
 use Rattle.point_set.specs.declared.figure.Figure.{Figure}
 use Rattle.point_set.specs.declared.rule.Rule.{Rule}

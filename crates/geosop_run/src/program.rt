@@ -97,11 +97,12 @@ fn relate_sources<R: Threads + Sync, I: Inputs, O: Sink, G: Gate>(
     let config = read_line(alloc, words)?;
     let in_a = admit_side(alloc, inputs, Which::A, config.a, config.scale)?;
     let in_b = admit_side(alloc, inputs, Which::B, config.b, config.scale)?;
+    let way = Way::of(config.prepared, config.threads);
     let means = Means {
         rt,
         alloc,
         gate,
-        way: Way::of(config.prepared, config.threads),
+        way,
     };
     let task = Task {
         asked: Question {

@@ -22,15 +22,14 @@ loop-batch-init g c =
           (sym (ap chunks_rest whole ∙ c.chunks-batch-items.ensures.rest)) (up_to_start IsLine c.args.in_b.now seen);
     }
 
-pub offer_batch-requires : goal.offer_batch-requires
-offer_batch-requires g c =
+pub offer_batch-requires-clause-few : goal.offer_batch-requires-clause-few
+offer_batch-requires-clause-few g c = omega (arith, c.in-Some.ensures.steps.1.1, c.loop-batch.invariant.size)
+
+pub offer_batch-requires-clause-b_sound : goal.offer_batch-requires-clause-b_sound
+offer_batch-requires-clause-b_sound g c lifetimes outlive =
     let taken = c.loop-batch.invariant.lines in
-    let steps = c.in-Some.ensures.steps in
-    record {
-      few = omega (arith, steps.1.1, c.loop-batch.invariant.size);
-      a_sound = c.requires.a_sound;
-      b_sound = All-stretch IsSound c.in-Some.batch.now _ _ steps.1.0 (All-behind IsSound taken.done _ _ taken.order c.requires.b_sound);
-    }
+    All-stretch IsSound c.in-Some.batch.now _ _ c.in-Some.ensures.steps.1.0
+    (All-behind IsSound taken.done _ _ taken.order c.requires.b_sound)
 
 pub loop-batch-preserved : goal.loop-batch-preserved
 loop-batch-preserved g c =

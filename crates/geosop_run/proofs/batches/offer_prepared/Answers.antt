@@ -1,5 +1,5 @@
 -- Each row that was written adds to what was taken, and one that wasn't leaves a front of it.
-use Rattle.std.proofs.Common.{◌≡◌, ◌∙◌, ◌∷◌, ◌++◌, [], List, Err, ap, length, reverse, sym, subst}
+use Rattle.std.proofs.Common.{◌≡◌, ◌∙◌, ◌∷◌, ◌++◌, [], List, Err, ap, length, refl, reverse, sym, subst}
 use Rattle.std.specs.List.{All}
 use Rattle.std.proofs.lemmas.List.{reverse-reverse}
 use Rattle.std.proofs.lemmas.List.Elements.{All-head}
@@ -15,9 +15,9 @@ use Rattle.geosop_run.proofs.Stretches.{All-behind, All-stretch, HasTakenUpTo, o
 use Rattle.geosop_run.proofs.batches.offer_prepared.Goals as goal
 
 -- a figure that is taken from the end of those left, which are sound, is sound, and so are the others
-sound_last : {left whole : List Figure} {x : Figure} → whole ≡ left ++ x ∷ [] → All IsSound (reverse whole)
+sound_last : (left whole : List Figure) (x : Figure) → whole ≡ left ++ x ∷ [] → All IsSound (reverse whole)
     → IsSound x × All IsSound (reverse left)
-sound_last {left} {whole} {x} split sound =
+sound_last left whole x split sound =
     let first = last_first left whole x split in (
       All-head IsSound x [] (All-stretch IsSound (x ∷ []) (reverse left) (reverse whole) first sound),
       All-behind IsSound (x ∷ []) (reverse left) (reverse whole) first sound,
@@ -31,11 +31,11 @@ loop-figure-init g c =
     subst (λ (left : List Figure). HasTakenUpTo IsRow c.args.in_a left seen seen)
     (sym (ap reverse c.reverse.ensures.reversed ∙ reverse-reverse c.args.in_a)) (up_to_start IsRow c.args.in_a seen)
 
-pub offer_batches-requires : goal.offer_batches-requires
-offer_batches-requires g c =
+pub offer_batches-requires-clause-a_sound : goal.offer_batches-requires-clause-a_sound
+offer_batches-requires-clause-a_sound g c lifetimes outlive =
     let taken = c.loop-figure.invariant in
-    let sound = (sound_last c.in-Some.ensures.last (All-behind IsSound taken.done _ _ taken.order c.requires.a_sound)).0 in
-    record { a_sound = subst IsSound (sym c.in_ok-a.ensures.figure) sound; b_sound = c.requires.b_sound }
+    let sound = sound_last _ _ c.in-Some.figure c.in-Some.ensures.last (All-behind IsSound taken.done _ _ taken.order c.requires.a_sound) in
+    subst IsSound (sym c.in_ok-a.ensures.figure) sound.0
 
 pub loop-figure-preserved : goal.loop-figure-preserved
 loop-figure-preserved g c =
@@ -54,7 +54,7 @@ returns-in_err-a g c =
     let taken = c.loop-figure.invariant in
     let seen = g.O.Sink.seen c.loop-figure.out in
     let last = c.in-Some.ensures.last in
-    let sound = sound_last last (All-behind IsSound taken.done _ _ taken.order c.requires.a_sound) in
+    let sound = sound_last _ _ c.in-Some.figure last (All-behind IsSound taken.done _ _ taken.order c.requires.a_sound) in
     rw (p.1, p.2)
     (record {
       written = up_to_fault IsRow fault.NoMemory c.args.in_a _ (c.in-Some.figure ∷ []) _ _ seen seen (last_first _ _ c.in-Some.figure last)
@@ -73,7 +73,7 @@ returns-in_err-offer_batches g c =
     let taken = c.loop-figure.invariant in
     let e = c.in_err-offer_batches.field-0.0 in
     let last = c.in-Some.ensures.last in
-    let sound = sound_last last (All-behind IsSound taken.done _ _ taken.order c.requires.a_sound) in
+    let sound = sound_last _ _ c.in-Some.figure last (All-behind IsSound taken.done _ _ taken.order c.requires.a_sound) in
     rw (p.1, p.2)
     (record {
       written = up_to_fault IsRow e c.args.in_a _ (c.in-Some.figure ∷ []) _ _ _ _ (last_first _ _ c.in-Some.figure last) taken
@@ -89,5 +89,5 @@ returns g c =
     let asked = c.args.asked in
     record {
       written = up_to_end (IsRowOf asked.rule asked.query c.args.in_b.now) c.args.in_a _ _ _
-          (ap (λ (left : List Figure). length (reverse left)) (c.in-None.ensures.none.0 tt)) c.loop-figure.invariant;
+          (ap (λ (left : List Figure). length (reverse left)) (c.in_default.ensures.none.0 refl)) c.loop-figure.invariant;
     }

@@ -52,6 +52,11 @@ returns-in_err-in_b g c =
           c.in_err-in_b.field-0.0 c.in_err-in_b.ensures.err;
     })
 
+pub of-way-requires : goal.of-way-requires
+of-way-requires g c =
+    let within = number_of_threads (map string_bytes c.args.words.now) c.in_ok-config.config c.in_ok-config.ensures.config in
+    record { some = within.0; most = within.1 }
+
 pub offer_told-requires-clause-number : goal.offer_told-requires-clause-number
 offer_told-requires-clause-number g c = sample_number (map string_bytes c.args.words.now) c.in_ok-config.config c.in_ok-config.ensures.config
 
