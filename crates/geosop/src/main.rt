@@ -2,7 +2,8 @@
 #![tactic(auto)]
 
 use geosop_io::{FileInputs, StdSink};
-use geosop_run::{Free, run};
+use geosop_run::run;
+use pair_batch::Free;
 use std::env;
 use std::io::{self, ErrorKind};
 use std::process::ExitCode;

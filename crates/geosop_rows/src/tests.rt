@@ -1,8 +1,9 @@
 ghost use Rattle.std.specs.Prelude.{◌≡◌, None};
 
 use geosop_io::{MemInputs, MemSink, NamedBytes};
-use geosop_run::{Free, Gate, Refusal, Status, UsageFault, run};
+use geosop_run::{Refusal, Status, UsageFault, run};
 use im_matrix::Which;
+use pair_batch::{Free, Gate};
 use plane_exact::{NoMemory, PlaceList};
 use std::alloc::{AllocError, Global};
 use std::test::*;

@@ -1,5 +1,6 @@
 pub mod Kept
 pub mod Parts
+pub mod Stretches
 pub mod SomeText
 pub mod ReadOnward
 pub mod SourceSteps
@@ -7,5 +8,5 @@ pub mod OneAnswer
 pub mod SideFaults
 pub mod Completeness
 pub mod Ran
-pub mod SampleNumber
+pub mod CommandNumbers
 pub mod Popped

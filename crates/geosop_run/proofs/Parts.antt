@@ -37,7 +37,7 @@ failed_within old middle new before part after taken failed = record {
 }
 
 -- whatever ended the writing within one more part ended it within all of the text
-ended_within : (e : PairFault) (old middle new : SinkSeen) (before part after : List ℕ) → middle ≡ after_taking old before
+pub ended_within : (e : PairFault) (old middle new : SinkSeen) (before part after : List ℕ) → middle ≡ after_taking old before
     → IsWritten (Err e) middle new part → IsWritten (Err e) old new (before ++ (part ++ after))
 ended_within fault.WriteFault old middle new before part after taken h = failed_within old middle new before part after taken h
 ended_within fault.NoMemory old middle new before part after taken h = record {
@@ -48,7 +48,7 @@ ended_within fault.NoMemory old middle new before part after taken h = record {
 
 module _ {X : Type 0} (IsPart : X → List ℕ → Type 0) where
   -- the parts of one list behind those of another
-  parts-append : (xs ys : List X) (text more : List ℕ) → IsTextOfEach IsPart xs text → IsTextOfEach IsPart ys more
+  pub parts-append : (xs ys : List X) (text more : List ℕ) → IsTextOfEach IsPart xs text → IsTextOfEach IsPart ys more
       → IsTextOfEach IsPart (xs ++ ys) (text ++ more)
   parts-append [] ys text more h k = subst (λ all. IsTextOfEach IsPart ys all) (ap (λ none. none ++ more) (sym h)) k
   parts-append (x ∷ xs) ys text more h k = record {
@@ -60,7 +60,7 @@ module _ {X : Type 0} (IsPart : X → List ℕ → Type 0) where
   }
 
   -- one part alone
-  one_part : (x : X) (part : List ℕ) → IsPart x part → IsTextOfEach IsPart (x ∷ []) part
+  pub one_part : (x : X) (part : List ℕ) → IsPart x part → IsTextOfEach IsPart (x ∷ []) part
   one_part x part is = record { first = part; rest = []; is_first = is; is_rest = refl; joined = sym (append-nil part) }
 
   -- there is a text where each item has a part

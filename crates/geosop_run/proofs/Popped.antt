@@ -9,3 +9,7 @@ one_popped left taken whole all x split h =
     ap (λ rest. left ++ rest) (reverse-append taken (x ∷ []))
     ∙ sym (append_assoc left (x ∷ []) (reverse taken))
     ∙ ap (λ xs. xs ++ reverse taken) (sym split) ∙ h
+
+-- the last item of a list is the first of the turned list
+pub last_first : {X : Type 0} (left whole : List X) (x : X) → whole ≡ left ++ x ∷ [] → reverse whole ≡ (x ∷ []) ++ reverse left
+last_first left whole x split = ap reverse split ∙ reverse-append left (x ∷ [])

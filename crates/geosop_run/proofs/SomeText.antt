@@ -1,6 +1,6 @@
 -- Pairs of sound figures have lines, rows and texts, whatever is asked of them.
-use Rattle.std.proofs.Common.{ℕ, List, refl, ap}
-use Rattle.std.specs.List.{All}
+use Rattle.std.proofs.Common.{ℕ, suc, List, [], ◌∷◌, refl, ap, arith}
+use Rattle.std.specs.List.{All, flat_map}
 use Rattle.point_set.specs.declared.figure.Figure.{Figure}
 use Rattle.point_set.specs.declared.rule.Rule.{Rule}
 use Rattle.point_set.specs.Shape.{dimension_of}
@@ -9,6 +9,7 @@ use Rattle.topo_pred.specs.declared.Query.{Query}
 use Rattle.topo_pred.specs.declared.Answer.{Answer}
 use Rattle.topo_pred.specs.Values.{value_of}
 use Rattle.relate_core.specs.Answers.{IsAnswerTo}
+use Rattle.pair_batch.specs.Answers.{AreAnswersTo}
 use Rattle.cell_laws.proofs.Cells.Matrix.{decided_by_samples}
 use Rattle.geosop_run.specs.Sources.{IsSound}
 use Rattle.geosop_run.specs.Text.{line_of, IsLineOf, IsRowOf, IsTextOf}
@@ -27,6 +28,21 @@ module _ (rule : Rule) (query : Query) where
   -- the line of an answer is that of its pair
   pub line_of_answer : (a b : Figure) (answer : Answer) → IsAnswerTo query a b rule answer → IsLineOf rule query a b (line_of answer)
   line_of_answer a b answer h = record { matrix = h.m; is_matrix = h.of_points; spelled = ap line_of h.answer_is }
+
+  -- the lines of the answers of a figure with each of a list are their row
+  pub row_of_answers : (a : Figure) (in_b : List Figure) (answers : List Answer) → AreAnswersTo query a rule in_b answers
+      → IsRowOf rule query in_b a (flat_map line_of answers)
+  row_of_answers a [] [] h = refl
+  row_of_answers a [] (answer ∷ others) h = absurd (omega (arith, h.count))
+  row_of_answers a (b ∷ in_b) [] h = absurd (omega (arith, h.count))
+  row_of_answers a (b ∷ in_b) (answer ∷ others) h = record {
+    first = line_of answer;
+    rest = flat_map line_of others;
+    is_first = line_of_answer a b answer (h.each 0 b answer refl refl);
+    is_rest = row_of_answers a in_b others
+        (record { count = omega (arith, h.count); each = λ place c other at_c at_other. h.each (suc place) c other at_c at_other });
+    joined = refl;
+  }
 
   -- a figure has a row with each list
   pub some_row : (a : Figure) (in_b : List Figure) → IsSound a → All IsSound in_b → (row : List ℕ) × IsRowOf rule query in_b a row

@@ -1,13 +1,9 @@
-ghost use Rattle.std.specs.Prelude.{◌≡◌, true, [], ◌∷◌, ◌++◌, All, map, IfOk, IfSome};
+ghost use Rattle.std.specs.Prelude.{◌≡◌, [], ◌∷◌, ◌++◌, All, map, IfOk};
 ghost use Rattle.im_matrix.specs.Cells.{matrix_text};
-ghost use Rattle.im_matrix.specs.declared.Which.TheVariants.{A, B};
 ghost use Rattle.geosop_io.specs.Sink.{IsOffered};
 ghost use Rattle.geosop_run.specs.Sources.{IsSound};
-ghost use Rattle.geosop_run.specs.Text.{line_of, IsLineOf, IsOutcome, IsRowOf, IsSummedUp, IsTextOf, IsTextUnless, IsTextWritten, IsToldOf};
-ghost use Rattle.sample_figures.specs.Samples.{IsSampleNumber, figures_of_sample};
+ghost use Rattle.geosop_run.specs.Text.{line_of, IsLineOf, IsRowOf, IsTextOf, IsTextWritten};
 
-use crate::discard::Discard;
-use crate::samples::sum_up;
 use geosop_io::{Failed, Sink, offer_whole};
 use im_matrix::Matrix;
 use plane_exact::NoMemory;
@@ -24,17 +20,6 @@ pub(crate) struct Question {
     pub(crate) rule: Rule,
     /// The query.
     pub(crate) query: Query,
-}
-
-/// What a command asks of all pairs.
-#[derive(Clone, Copy, Debug)]
-pub(crate) struct Task {
-    /// What is asked of each.
-    pub(crate) asked: Question,
-    /// The number of the sample, where one stands in place of the sources.
-    pub(crate) sample: Option<u32>,
-    /// Whether nothing is written.
-    pub(crate) quiet: bool,
 }
 
 /// Why the lines of the pairs weren't all written.
@@ -75,7 +60,7 @@ fn spell(matrix: &Matrix) -> [u8; 10]
 }
 
 /// Offers the line of an answer.
-fn offer_answer<O: Sink>(out: &mut O, answer: Answer) -> Result<(), Failed>
+pub(crate) fn offer_answer<O: Sink>(out: &mut O, answer: Answer) -> Result<(), Failed>
     ensures offered { IsOffered result (O.seen out.old) (O.seen out.new) (line_of answer) }
 {
     match answer {
@@ -141,8 +126,8 @@ fn plains_of(alloc: Global, figures: &[Valid]) -> Result<Vec<Plain<'_>>, NoMemor
     Ok(plains)
 }
 
-/// Offers the lines of all pairs, A outer and B inner.
-pub(crate) fn offer_pairs<O: Sink>(
+/// Offers the lines of all pairs, A outer and B inner. The figures of B get their indexes once.
+pub(crate) fn offer_plain<O: Sink>(
     alloc: Global,
     out: &mut O,
     in_a: &[Valid],
@@ -158,69 +143,4 @@ pub(crate) fn offer_pairs<O: Sink>(
         offer_row(alloc, out, a, of_b.as_mut_slice(), asked)?;
     }
     Ok(())
-}
-
-/// Offers the lines of all pairs, or, where the run is quiet, makes the answers and offers nothing.
-fn offer_unless_quiet<O: Sink>(
-    alloc: Global,
-    out: &mut O,
-    in_a: &[Valid],
-    in_b: &[Valid],
-    asked: Question,
-    quiet: bool,
-) -> Result<(), PairFault>
-    requires a_sound { All IsSound in_a.now }
-    requires b_sound { All IsSound in_b.now }
-    ensures written { IsTextWritten (IsTextUnless quiet (IsTextOf asked.rule asked.query in_a.now in_b.now))
-        result (O.seen out.old) (O.seen out.new) }
-    ensures quiet { quiet ≡ true → O.seen out.new ≡ O.seen out.old }
-{
-    if quiet {
-        offer_pairs(alloc, &mut Discard, in_a, in_b, asked)
-    } else {
-        offer_pairs(alloc, out, in_a, in_b, asked)
-    }
-}
-
-/// Offers the summary of a sample's lines, or, where the run is quiet, makes it and offers nothing.
-fn offer_summary<O: Sink>(
-    alloc: Global,
-    out: &mut O,
-    number: u32,
-    asked: Question,
-    quiet: bool,
-) -> Result<(), PairFault>
-    requires number { IsSampleNumber number }
-    ensures written { IsOutcome
-        (IsTextUnless quiet (IsSummedUp (IsTextOf asked.rule asked.query (figures_of_sample number A) (figures_of_sample number B))))
-        result (O.seen out.old) (O.seen out.new) }
-    ensures quiet { quiet ≡ true → O.seen out.new ≡ O.seen out.old }
-{
-    let summary = sum_up(alloc, number, asked)?;
-    if quiet {
-        return Ok(());
-    }
-    offer_whole(out, summary.as_slice())?;
-    Ok(())
-}
-
-/// Offers what is told of all pairs: their lines or, under a sample, the summary of its lines. A quiet run offers nothing.
-pub(crate) fn offer_told<O: Sink>(
-    alloc: Global,
-    out: &mut O,
-    in_a: &[Valid],
-    in_b: &[Valid],
-    task: Task,
-) -> Result<(), PairFault>
-    requires a_sound { All IsSound in_a.now }
-    requires b_sound { All IsSound in_b.now }
-    requires number { IfSome task.sample IsSampleNumber }
-    ensures written { IsOutcome (IsTextUnless task.quiet (IsToldOf task.sample task.asked.rule task.asked.query in_a.now in_b.now))
-        result (O.seen out.old) (O.seen out.new) }
-    ensures quiet { task.quiet ≡ true → O.seen out.new ≡ O.seen out.old }
-{
-    match task.sample {
-        None => offer_unless_quiet(alloc, out, in_a, in_b, task.asked, task.quiet),
-        Some(number) => offer_summary(alloc, out, number, task.asked, task.quiet),
-    }
 }

@@ -7,18 +7,17 @@ use Rattle.topo_pred.specs.declared.Query.{Query}
 use Rattle.geosop_io.specs.Sink.{SinkSeen}
 use Rattle.geosop_run.specs.declared.pairs.PairFault.{PairFault}
 use Rattle.geosop_run.specs.Text.{IsOutcome, IsTextUnless, IsToldOf}
-use Rattle.geosop_run.proofs.SampleNumber.{sample_number}
+use Rattle.geosop_run.proofs.CommandNumbers.{number_of_threads, sample_number}
 use Rattle.geosop_run.proofs.Ran.{at_words, at_a, at_b, at_fault, at_ok}
 use Rattle.geosop_run.proofs.program.relate_sources.Goals as goal
 
--- what is told of equal lists
-same_told : {xs in_a ys in_b : List Figure} (quiet : Bool) (sample : Option ℕ) (rule : Rule) (query : Query)
-    (result : Result (Unit {0}) PairFault) (old new : SinkSeen) → xs ≡ in_a → ys ≡ in_b
-    → IsOutcome (IsTextUnless quiet (IsToldOf sample rule query xs ys)) result old new
+-- what is told of an equal list of B
+same_told : {in_a xs in_b : List Figure} (quiet : Bool) (sample : Option ℕ) (rule : Rule) (query : Query)
+    (result : Result (Unit {0}) PairFault) (old new : SinkSeen) → xs ≡ in_b
+    → IsOutcome (IsTextUnless quiet (IsToldOf sample rule query in_a xs)) result old new
     → IsOutcome (IsTextUnless quiet (IsToldOf sample rule query in_a in_b)) result old new
-same_told {xs} {in_a} {ys} {in_b} quiet sample rule query result old new e f h =
-    subst (λ (zs : List Figure). IsOutcome (IsTextUnless quiet (IsToldOf sample rule query zs in_b)) result old new) e
-    (subst (λ (zs : List Figure). IsOutcome (IsTextUnless quiet (IsToldOf sample rule query xs zs)) result old new) f h)
+same_told {in_a} quiet sample rule query result old new e =
+    subst (λ (zs : List Figure). IsOutcome (IsTextUnless quiet (IsToldOf sample rule query in_a zs)) result old new) e
 
 pub returns-in_err-config : goal.returns-in_err-config
 returns-in_err-config g c =
@@ -53,6 +52,11 @@ returns-in_err-in_b g c =
           c.in_err-in_b.field-0.0 c.in_err-in_b.ensures.err;
     })
 
+pub of-way-requires : goal.of-way-requires
+of-way-requires g c =
+    let within = number_of_threads (map string_bytes c.args.words.now) c.in_ok-config.config c.in_ok-config.ensures.config in
+    record { some = within.0; most = within.1 }
+
 pub offer_told-requires-clause-number : goal.offer_told-requires-clause-number
 offer_told-requires-clause-number g c = sample_number (map string_bytes c.args.words.now) c.in_ok-config.config c.in_ok-config.ensures.config
 
@@ -69,7 +73,7 @@ returns-in_err-offer_told g c =
           (g.I.Inputs.seen c.admit_side-2.new.inputs) c.admit_side-2.ensures.others c.admit_side-2.ensures.asked
           c.in_ok-in_b.in_b c.in_ok-in_b.ensures.ok c.in_ok-in_b.ensures.uncounted (g.O.Sink.seen c.offer_told.new.out)
           c.offer_told.ensures.quiet c.in_err-offer_told.field-0.0
-          (same_told command.quiet command.sample command.rule command.query _ _ _ c.as_slice.ensures.items c.as_slice-2.ensures.items
+          (same_told command.quiet command.sample command.rule command.query _ _ _ c.as_slice.ensures.items
           c.in_err-offer_told.ensures.written);
     })
 
@@ -84,6 +88,6 @@ returns g c =
           (g.I.Inputs.seen c.admit_side-2.new.inputs) c.admit_side-2.ensures.others c.admit_side-2.ensures.asked
           c.in_ok-in_b.in_b c.in_ok-in_b.ensures.ok c.in_ok-in_b.ensures.uncounted (g.O.Sink.seen c.offer_told.new.out)
           c.offer_told.ensures.quiet c.in_ok-offer_told.field-0
-          (same_told command.quiet command.sample command.rule command.query _ _ _ c.as_slice.ensures.items c.as_slice-2.ensures.items
+          (same_told command.quiet command.sample command.rule command.query _ _ _ c.as_slice.ensures.items
           c.in_ok-offer_told.ensures.written);
     }

@@ -8,7 +8,7 @@ use Rattle.geosop_run.specs.Sources.{IsSound}
 use Rattle.geosop_run.specs.Text.{IsRowOf, IsTextOf, IsTextWritten}
 use Rattle.geosop_run.proofs.Parts.{text_unbegun, text_ended, taken_more}
 use Rattle.geosop_run.proofs.SomeText.{some_text_of}
-use Rattle.geosop_run.proofs.pairs.offer_pairs.Goals as goal
+use Rattle.geosop_run.proofs.pairs.offer_plain.Goals as goal
 
 pub returns-in_err-of_b : goal.returns-in_err-of_b
 returns-in_err-of_b g c =

@@ -2,7 +2,7 @@
 use Rattle.std.proofs.Common.{◌≡◌, map, take}
 use Rattle.geosop_run.specs.Text.{IsRowOf}
 use Rattle.geosop_run.proofs.Parts.{HasTakenParts}
-use Rattle.geosop_run.proofs.pairs.offer_pairs.Given as goal
+use Rattle.geosop_run.proofs.pairs.offer_plain.Given as goal
 
 abbrev pub invariant-loop-a : goal.invariant-loop-a
 invariant-loop-a g l = record {

@@ -5,7 +5,7 @@ use Rattle.im_matrix.specs.declared.Which.TheVariants.{A, B}
 use Rattle.geosop_io.proofs.Laws.{after_taking-nil}
 use Rattle.sample_figures.specs.Samples.{figures_of_sample}
 use Rattle.geosop_run.specs.Text.{IsSummedUp, IsTextOf}
-use Rattle.geosop_run.proofs.pairs.offer_summary.Goals as goal
+use Rattle.geosop_run.proofs.told.offer_summary.Goals as goal
 
 pub returns-in_err-offer_whole-clause-written : goal.returns-in_err-offer_whole-clause-written
 returns-in_err-offer_whole-clause-written g c =
