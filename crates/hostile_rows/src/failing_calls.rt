@@ -20,6 +20,9 @@ const FIVE: &[u8] =
 const MEET: &[u8] =
     b"true\nfalse\nfalse\nfalse\nfalse\ntrue\ntrue\ntrue\ntrue\nfalse\ntrue\ntrue\ntrue\ntrue\nfalse\n";
 
+/// How many bytes that text has.
+const BYTES: u32 = 81;
+
 const WORDS: [&str; 7] = [
     "geosop",
     "-a",
@@ -86,15 +89,13 @@ fn each_call_of_the_inputs_fails(rt: HostRuntime) -> Result<(), Fail> {
 
 #[test]
 fn each_write_of_one_byte_fails(rt: HostRuntime) -> Result<(), Fail> {
-    let mut number = 0;
-    for taken in 0..MEET.len() {
-        number += 1;
-        let cut = writing(&rt, &[number])?;
-        let front = &MEET[..taken];
-        assert!(rt;
-            cut.is(Status::WriteFault, front, "geosop: write fault\n"),
-            "write {number}"
-        );
+    for taken in 0..BYTES {
+        let cut = writing(&rt, &[taken + 1])?;
+        let front = cut.out.bytes();
+        assert!(rt; cut.status == Status::WriteFault, "behind {taken} bytes");
+        assert!(rt; cut.err.bytes() == b"geosop: write fault\n".as_slice());
+        assert!(rt; MEET.starts_with(front), "behind {taken} bytes");
+        assert_eq!(rt; front.len(), taken as usize);
     }
     Ok(())
 }
