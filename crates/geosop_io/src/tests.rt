@@ -59,6 +59,18 @@ fn bytes_go_from_memory_to_memory(rt: HostRuntime) -> Result<(), Fail> {
 }
 
 #[test]
+fn a_cut_sink_takes_little_at_a_time(rt: HostRuntime) -> Result<(), Fail> {
+    let alloc = rt.alloc();
+    let mut sink = MemSink::cut(alloc, 2, 6, PlaceList::new(alloc))?;
+    assert!(rt; sink.write(b"POINT") == Ok(2));
+    assert!(rt; offer_whole(&mut sink, b"INT").is_ok());
+    assert!(rt; sink.write(b" EMPTY") == Ok(1));
+    assert!(rt; sink.write(b"EMPTY") == Err(Failed));
+    assert!(rt; sink.bytes() == b"POINT ".as_slice());
+    Ok(())
+}
+
+#[test]
 fn a_writer_that_fails_is_a_sink_that_fails(rt: HostRuntime) {
     let mut sink = StdSink::new(Narrow {
         calls: 0,
