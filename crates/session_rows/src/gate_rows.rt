@@ -1,6 +1,7 @@
 //! Who passes the gate of a run: each worker that has a pair, once for each figure of A, and no one where nothing is prepared.
 use crate::runs::{MEET, run_words};
-use geosop_run::{Gate, Status};
+use geosop_run::Status;
+use pair_batch::Gate;
 use plane_exact::NoMemory;
 use std::sync::atomic::AtomicU64;
 use std::sync::atomic::Ordering::SeqCst;

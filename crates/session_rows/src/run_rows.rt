@@ -2,8 +2,9 @@
 use crate::figures::{chain, star};
 use crate::runs::{MEET, run_words};
 use geom_valid::InvalidKind;
-use geosop_run::{Free, Refusal, Status};
+use geosop_run::{Refusal, Status};
 use im_matrix::Which;
+use pair_batch::Free;
 use plane_exact::NoMemory;
 use std::process::Abort;
 use std::test::*;

@@ -1,6 +1,7 @@
 //! Whole runs on memory.
 use geosop_io::{MemInputs, MemSink, NamedBytes};
-use geosop_run::{Gate, Status, run};
+use geosop_run::{Status, run};
+use pair_batch::Gate;
 use plane_exact::{NoMemory, PlaceList};
 use std::alloc::{AllocError, Global};
 use std::test::*;
