@@ -42,7 +42,11 @@ fn a_square_meets_four_of_five_by_any_threads(rt: HostRuntime) -> Result<(), Fai
     for threads in [1, 2, 64] {
         let query = Query::Named(Name::Intersects);
         let told = answers_by(&rt, &prepared, figures.as_slice(), query, threads)?;
-        assert_eq!(rt; told.as_slice(), expected.as_slice(), "by {threads} threads");
+        assert_eq!(rt;
+            told.as_slice(),
+            expected.as_slice(),
+            "by {threads} threads"
+        );
     }
     Ok(())
 }

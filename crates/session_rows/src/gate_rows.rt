@@ -77,7 +77,11 @@ fn one_pass_for_each_worker_with_a_figure(rt: HostRuntime) -> Result<(), Fail> {
             threads,
             "intersects",
         ];
-        assert_eq!(rt; passes_in(&rt, &list, MEET)?, Some(passes), "by {threads} threads");
+        assert_eq!(rt;
+            passes_in(&rt, &list, MEET)?,
+            Some(passes),
+            "by {threads} threads"
+        );
     }
     Ok(())
 }

@@ -11,8 +11,8 @@ mod gate_rows;
 #[cfg(test)]
 mod node_rows;
 #[cfg(test)]
-mod runs;
-#[cfg(test)]
 mod run_rows;
+#[cfg(test)]
+mod runs;
 #[cfg(test)]
 mod sharing_rows;

@@ -24,7 +24,10 @@ fn fifteen_pairs_by_prepared_figures(rt: HostRuntime) -> Result<(), Fail> {
             threads,
             "intersects",
         ];
-        assert!(rt; run_words(&rt, &list, &Free)?.is(Status::Ok, MEET, ""), "by {threads} threads");
+        assert!(rt;
+            run_words(&rt, &list, &Free)?.is(Status::Ok, MEET, ""),
+            "by {threads} threads"
+        );
     }
     Ok(())
 }
@@ -49,7 +52,10 @@ fn assert_relates<R: Threads + Sync + Abort + AllocGlobal>(
     let plain = ["geosop", "-a", a, "-b", b, "relate"];
     assert!(rt; run_words(rt, &plain, &Free)?.is(status, out, err));
     let prepared = ["geosop", "-a", a, "-b", b, "--prepared", "relate"];
-    assert!(rt; run_words(rt, &prepared, &Free)?.is(status, out, err), "prepared");
+    assert!(rt;
+        run_words(rt, &prepared, &Free)?.is(status, out, err),
+        "prepared"
+    );
     Ok(())
 }
 

@@ -42,11 +42,17 @@ fn the_first_query_makes_an_index_that_another_session_finds(rt: HostRuntime) ->
     let prepared = Prepared::new(rt.alloc(), figure_of(rt.alloc(), SQUARE)?)?;
     let mut first = prepared.session()?;
     assert_origins(&rt, &first, Origin::Unused, Origin::Unused);
-    assert_eq!(rt; edges_at(rt.alloc(), &mut first, 0, 2)?.as_slice(), [3].as_slice());
+    assert_eq!(rt;
+        edges_at(rt.alloc(), &mut first, 0, 2)?.as_slice(),
+        [3].as_slice()
+    );
     assert_origins(&rt, &first, Origin::Made, Origin::Unused);
     let mut second = prepared.session()?;
     assert_origins(&rt, &second, Origin::Unused, Origin::Unused);
-    assert_eq!(rt; edges_at(rt.alloc(), &mut second, 4, 4)?.as_slice(), [1, 2].as_slice());
+    assert_eq!(rt;
+        edges_at(rt.alloc(), &mut second, 4, 4)?.as_slice(),
+        [1, 2].as_slice()
+    );
     assert_origins(&rt, &second, Origin::Found, Origin::Unused);
     first.compare(&mut second);
     Ok(())
@@ -75,7 +81,10 @@ fn a_query_looks_at_few_boxes(rt: HostRuntime) -> Result<(), Fail> {
     let prepared = Prepared::new(rt.alloc(), first_of(rt.alloc(), pair.a)?)?;
     let mut session = prepared.session()?;
     assert_eq!(rt; session.box_looks(), 0);
-    assert_eq!(rt; edges_at(rt.alloc(), &mut session, 0, 50)?.as_slice(), [799].as_slice());
+    assert_eq!(rt;
+        edges_at(rt.alloc(), &mut session, 0, 50)?.as_slice(),
+        [799].as_slice()
+    );
     let looks = session.box_looks();
     assert!(rt; 1 <= looks && looks <= 200, "{looks} looks");
     Ok(())
