@@ -40,11 +40,11 @@ fn words_of(alloc: Global, list: &[&str]) -> Result<Vec<String>, AllocError> {
     Ok(words)
 }
 
-fn inputs(alloc: Global) -> Result<MemInputs, NoMemory> {
+fn files_of(alloc: Global) -> Result<NamedBytes, NoMemory> {
     let mut files = NamedBytes::new(alloc);
     files.add("three.wkt", THREE)?;
     files.add("five.wkt", FIVE)?;
-    Ok(MemInputs::new(files, PlaceList::new(alloc), 16))
+    Ok(files)
 }
 
 /// Runs the words, where the files of the three and of the five figures are there.
@@ -55,7 +55,7 @@ pub(crate) fn run_words<R: Threads + Sync + AllocGlobal, G: Gate>(
 ) -> Result<Outcome, NoMemory> {
     let alloc = rt.alloc();
     let words = words_of(alloc, list)?;
-    let mut inputs = inputs(alloc)?;
+    let mut inputs = MemInputs::new(files_of(alloc)?, PlaceList::new(alloc), 16);
     let mut out = MemSink::new(alloc, 1000, PlaceList::new(alloc))?;
     let mut err = MemSink::new(alloc, 1000, PlaceList::new(alloc))?;
     let status = run(

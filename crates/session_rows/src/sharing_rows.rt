@@ -54,7 +54,6 @@ fn the_first_query_makes_an_index_that_another_session_finds(rt: HostRuntime) ->
         [1, 2].as_slice()
     );
     assert_origins(&rt, &second, Origin::Found, Origin::Unused);
-    first.compare(&mut second);
     Ok(())
 }
 
