@@ -111,7 +111,7 @@ impl<'a> Session<'a> {
 
     /// How the session came to know the index of an area. Takes no memory.
     pub fn area_origin(&self, area: u32) -> Origin
-        requires place { area < length self.now.areas }
+        requires place { area < length self.now.figure.areas }
         ensures origin { (c : SeenCell) → IsAtPlace self.now.areas area c → result ≡ c.origin }
     {
         self.areas[area as usize].origin()
