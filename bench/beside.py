@@ -145,7 +145,7 @@ class Bench:
             self.differed = True
             print("  GEOS says that it isn't valid")
 
-    def tell_differences(self, count, first):
+    def tell_differences(self, count, first, other_name="GEOS"):
         """Says that the outputs are equal, or where they aren't."""
         if count == 0:
             print("  the same lines")
@@ -153,7 +153,7 @@ class Bench:
         self.differed = True
         print(f"  {count:,} lines differ")
         for number, mine, other in first:
-            print(f"    line {number:,}: ours {mine}, GEOS {other}")
+            print(f"    line {number:,}: ours {mine}, {other_name} {other}")
 
 
 def positions(points):
