@@ -1,14 +1,15 @@
 -- Texts of one part for each item of a list, offered item by item.
-use Rattle.std.proofs.Common.{◌≡◌, ℕ, ◌+◌, ◌<◌, ◌≤◌, List, [], ◌∷◌, ◌++◌, Ok, Err, refl, sym, subst, ◌∙◌, ap, append_assoc, length, length-append, take, drop, get_or, arith}
+use Rattle.std.proofs.Common.{◌≡◌, ℕ, ◌+◌, ◌<◌, ◌≤◌, List, [], ◌∷◌, ◌++◌, Result, Ok, Err, true, refl, sym, subst, ◌∙◌, ap, append_assoc, length, length-append, take, drop, get_or, arith}
 use Rattle.std.specs.List.{All, flat_map}
 use Rattle.std.proofs.lemmas.List.{take_more, drop_more, take_all, take_at, drop_at, take-append-drop, take-append-le, append-nil}
 use Rattle.std.proofs.lemmas.List.Elements.{All-head, All-tail}
 use Rattle.std.proofs.Math.Seq.{take-add}
+use Rattle.geosop_io.specs.Counts.{one_more}
 use Rattle.geosop_io.specs.Sink.{SinkSeen, HasFailedAt, after_taking, after_fault}
 use Rattle.geosop_io.proofs.Laws.{after_taking-nil, after_taking-append}
 use Rattle.geosop_run.specs.declared.pairs.PairFault.{PairFault}
 use Rattle.geosop_run.specs.declared.pairs.PairFault.TheVariants as fault
-use Rattle.geosop_run.specs.Text.{IsTextOfEach, IsWritten, IsTextWritten}
+use Rattle.geosop_run.specs.Text.{IsTextOfEach, IsTextUnless, IsWritten, IsTextWritten}
 
 -- a front of one more part is a front of all of the text
 front_within : (before part after : List ℕ) (count : ℕ) → count ≤ length part
@@ -137,6 +138,18 @@ text_unbegun IsText seen some = record {
   is_text = some.1;
   written = record { count = 0; within = omega arith; taken = after_taking-nil seen };
 }
+
+-- a fault that was counted is more than none
+one_counted : (count : ℕ) → 0 ≡ one_more count → ⊥
+one_counted count e = grind arith
+
+-- where a sink that counts no fault was to take a text, no text was to be taken by another one
+pub quiet_written : (IsText IsOther : List ℕ → Type 0) (result : Result (Unit {0}) PairFault) (old new seen : SinkSeen) → 0 ≡ new.faults
+    → IsTextWritten IsOther result old new → IsTextWritten (IsTextUnless true IsText) result seen seen
+quiet_written IsText IsOther (Ok done) old new seen none h = record { text = []; is_text = refl; written = after_taking-nil seen }
+quiet_written IsText IsOther (Err fault.WriteFault) old new seen none h =
+    absurd (one_counted _ (none ∙ ap (λ (sink : SinkSeen). sink.faults) h.written.taken))
+quiet_written IsText IsOther (Err fault.NoMemory) old new seen none h = text_unbegun (IsTextUnless true IsText) seen ([], refl)
 
 -- where each part is a function of its item, the text is theirs
 flat_text : {X : Type 0} (f : X → List ℕ) (xs : List X) (text : List ℕ) → IsTextOfEach (λ x part. part ≡ f x) xs text → text ≡ flat_map f xs

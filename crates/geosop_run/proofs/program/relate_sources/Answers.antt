@@ -12,11 +12,11 @@ use Rattle.geosop_run.proofs.Ran.{at_words, at_a, at_b, at_fault, at_ok}
 use Rattle.geosop_run.proofs.program.relate_sources.Goals as goal
 
 -- what is told of an equal list of B
-same_told : {in_a xs in_b : List Figure} (quiet : Bool) (sample : Option ℕ) (rule : Rule) (query : Query)
+same_told : (in_a xs in_b : List Figure) (quiet : Bool) (sample : Option ℕ) (rule : Rule) (query : Query)
     (result : Result (Unit {0}) PairFault) (old new : SinkSeen) → xs ≡ in_b
     → IsOutcome (IsTextUnless quiet (IsToldOf sample rule query in_a xs)) result old new
     → IsOutcome (IsTextUnless quiet (IsToldOf sample rule query in_a in_b)) result old new
-same_told {in_a} quiet sample rule query result old new e =
+same_told in_a xs in_b quiet sample rule query result old new e =
     subst (λ (zs : List Figure). IsOutcome (IsTextUnless quiet (IsToldOf sample rule query in_a zs)) result old new) e
 
 pub returns-in_err-config : goal.returns-in_err-config
@@ -58,7 +58,7 @@ of-way-requires g c =
     record { some = within.0; most = within.1 }
 
 pub offer_told-requires-clause-number : goal.offer_told-requires-clause-number
-offer_told-requires-clause-number g c = sample_number (map string_bytes c.args.words.now) c.in_ok-config.config c.in_ok-config.ensures.config
+offer_told-requires-clause-number g c lifetimes outlive = sample_number (map string_bytes c.args.words.now) c.in_ok-config.config c.in_ok-config.ensures.config
 
 pub returns-in_err-offer_told : goal.returns-in_err-offer_told
 returns-in_err-offer_told g c =
@@ -73,7 +73,7 @@ returns-in_err-offer_told g c =
           (g.I.Inputs.seen c.admit_side-2.new.inputs) c.admit_side-2.ensures.others c.admit_side-2.ensures.asked
           c.in_ok-in_b.in_b c.in_ok-in_b.ensures.ok c.in_ok-in_b.ensures.uncounted (g.O.Sink.seen c.offer_told.new.out)
           c.offer_told.ensures.quiet c.in_err-offer_told.field-0.0
-          (same_told command.quiet command.sample command.rule command.query _ _ _ c.as_slice.ensures.items
+          (same_told c.in_ok-in_a.in_a _ c.in_ok-in_b.in_b command.quiet command.sample command.rule command.query _ _ _ c.as_slice.ensures.items
           c.in_err-offer_told.ensures.written);
     })
 
@@ -88,6 +88,6 @@ returns g c =
           (g.I.Inputs.seen c.admit_side-2.new.inputs) c.admit_side-2.ensures.others c.admit_side-2.ensures.asked
           c.in_ok-in_b.in_b c.in_ok-in_b.ensures.ok c.in_ok-in_b.ensures.uncounted (g.O.Sink.seen c.offer_told.new.out)
           c.offer_told.ensures.quiet c.in_ok-offer_told.field-0
-          (same_told command.quiet command.sample command.rule command.query _ _ _ c.as_slice.ensures.items
+          (same_told c.in_ok-in_a.in_a _ c.in_ok-in_b.in_b command.quiet command.sample command.rule command.query _ _ _ c.as_slice.ensures.items
           c.in_ok-offer_told.ensures.written);
     }
