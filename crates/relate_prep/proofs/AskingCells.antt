@@ -1,7 +1,7 @@
 -- Cells of areas that are asked for one by one: each stays the cell of its area, is the same cell later, and those of far areas stay as
 -- they were.
 use Rattle.std.proofs.Common.{◌≡◌, ◌⊎◌, inl, inr, ℕ, zero, suc, ◌+◌, ◌<◌, ◌≤◌, List, [], ◌∷◌, length, set, refl, sym, ◌∙◌, ap, subst, arith}
-use Rattle.std.specs.Prelude.{map, slice_get}
+use Rattle.std.specs.Prelude.{Result, Ok, Err, OnOk, map, slice_get}
 use Rattle.std.specs.Option.{option_map}
 use Rattle.std.proofs.lemmas.Bool.{cases_eq}
 use Rattle.std.proofs.lemmas.List.{length-map, length-set, get_or-set_same}
@@ -50,6 +50,16 @@ set_cases xs k place x y z at is = elim (cases_eq place k) [
   })
   | inr differ ↦ inr (record { differ = differ; was = sym (set_other xs k place y differ) ∙ is })
 ]
+
+-- a list has an item at each place within it
+pub record HasItem {X : Type 0} (xs : List X) (k : ℕ) : Type 0 where
+  pub item : X
+  pub at : IsAtPlace xs k item
+
+pub item_at : {X : Type 0} (xs : List X) (k : ℕ) → k < length xs → HasItem xs k
+item_at [] k below = absurd (omega (arith, below))
+item_at (x ∷ xs) zero below = record { item = x; at = refl }
+item_at (x ∷ xs) (suc k) below = let h = item_at xs k (omega (arith, below)) in record { item = h.item; at = h.at }
 
 -- ---- one cell, later
 pub later_self : (c : SeenCell) → IsLater c c
@@ -125,6 +135,11 @@ pub record AreAskedTo (areas : List Area) (p : Point) (old new : List SeenCell) 
   pub asked : (place : ℕ) → place < count → (area : Area) (c : SeenCell) → IsAtPlace areas place area → IsAtPlace new place c
       → IsShellNear area p → WasAsked c
 
+-- and each cell is the one of its area
+pub record IsAskedSo (f : Figure) (p : Point) (names : List ℕ) (old new : List SeenCell) (count : ℕ) : Type 0 where
+  pub cells : AreAreaCells f names new
+  pub to : AreAskedTo f.areas p old new count
+
 -- none at first
 pub asked_to_none : (areas : List Area) (p : Point) (cells : List SeenCell) → AreAskedTo areas p cells cells 0
 asked_to_none areas p cells = record {
@@ -178,3 +193,8 @@ pub asked_all :
 asked_all areas p old new count to all place area c is is_c near =
     let within = slice_get_within areas place area is in
     to.asked place (omega (arith, within, all)) area c is is_c near
+
+-- what holds holds where an answer is Ok
+pub on_ok : {T E P : Type 0} (r : Result T E) → P → OnOk r P
+on_ok (Ok value) h = h
+on_ok (Err error) h = tt

@@ -132,6 +132,14 @@ bottom_is box p =
     identity ((num (pos 0) ⊗ var 1 ⊕ num (negsuc 0) ⊗ var 2) ⊕ var 0 ⊗ var 3) (var 0 ⊗ var 3 ⊖ var 2)
     (box.low_y ∷ p.x ∷ p.y ∷ p.w ∷ []) refl
 
+-- the point straight above or below another that is just above the box
+abbrev raised : Window → Point → Point
+raised box p = record { x = p.x; y = (box.high_y +ℤ pos 1) *ℤ p.w; w = p.w; heavy = p.heavy }
+
+-- the point at the height of another that is just right of the box
+abbrev moved : Window → Point → Point
+moved box p = record { x = (box.high_x +ℤ pos 1) *ℤ p.w; y = p.y; w = p.w; heavy = p.heavy }
+
 -- ---- a ring in its box
 module _ (ring : List Pt) (closed : IsClosed ring) (box : Window) (is : IsEnvelope ring (Some box))
   where
@@ -160,36 +168,30 @@ module _ (ring : List Pt) (closed : IsClosed ring) (box : Window) (is : IsEnvelo
         let even = flat_even box p above (edges_of ring) ends in
         λ i. not (off i) && even i
 
-    -- the point straight above or below another that is just above the box
-    raised : Point → Point
-    raised p = record { x = p.x; y = (box.high_y +ℤ pos 1) *ℤ p.w; w = p.w; heavy = p.heavy }
-
-    raised_none : (p : Point) → is_inside (raised p) ring ≡ false
+    -- nor just above it
+    raised_none : (p : Point) → is_inside (raised box p) ring ≡ false
     raised_none p =
-        above_none (raised p) (omega (arith, linear, +ℤ-*ℤ box.high_y (pos 1) p.w, one-*ℤ p.w, p.heavy))
+        above_none (raised box p) (omega (arith, linear, +ℤ-*ℤ box.high_y (pos 1) p.w, one-*ℤ p.w, p.heavy))
 
     -- so nothing is to the left or to the right
     left_none : (p : Point) → p.x <ℤ (box.low_x *ℤ p.w) → is_inside p ring ≡ false
     left_none p beyond =
-        stays (to_left box) (λ m inside. let low = inside.left in omega (arith, linear, left_is box m, low)) p (raised p)
-        (omega (arith, linear, left_is box p, beyond)) (omega (arith, linear, left_is box (raised p), beyond))
+        stays (to_left box) (λ m inside. let low = inside.left in omega (arith, linear, left_is box m, low)) p (raised box p)
+        (omega (arith, linear, left_is box p, beyond)) (omega (arith, linear, left_is box (raised box p), beyond))
         ∙ raised_none p
 
     right_none : (p : Point) → (box.high_x *ℤ p.w) <ℤ p.x → is_inside p ring ≡ false
     right_none p beyond =
-        stays (to_right box) (λ m inside. let high = inside.right in omega (arith, linear, right_is box m, high)) p (raised p)
-        (omega (arith, linear, right_is box p, beyond)) (omega (arith, linear, right_is box (raised p), beyond))
+        stays (to_right box) (λ m inside. let high = inside.right in omega (arith, linear, right_is box m, high)) p (raised box p)
+        (omega (arith, linear, right_is box p, beyond)) (omega (arith, linear, right_is box (raised box p), beyond))
         ∙ raised_none p
 
-    -- nor below, by the point at the same height that is just right of the box
-    moved : Point → Point
-    moved p = record { x = (box.high_x +ℤ pos 1) *ℤ p.w; y = p.y; w = p.w; heavy = p.heavy }
-
+    -- nor below
     below_none : (p : Point) → p.y <ℤ (box.low_y *ℤ p.w) → is_inside p ring ≡ false
     below_none p beyond =
-        stays (to_bottom box) (λ m inside. let low = inside.bottom in omega (arith, linear, bottom_is box m, low)) p (moved p)
-        (omega (arith, linear, bottom_is box p, beyond)) (omega (arith, linear, bottom_is box (moved p), beyond))
-        ∙ right_none (moved p) (omega (arith, linear, +ℤ-*ℤ box.high_x (pos 1) p.w, one-*ℤ p.w, p.heavy))
+        stays (to_bottom box) (λ m inside. let low = inside.bottom in omega (arith, linear, bottom_is box m, low)) p (moved box p)
+        (omega (arith, linear, bottom_is box p, beyond)) (omega (arith, linear, bottom_is box (moved box p), beyond))
+        ∙ right_none (moved box p) (omega (arith, linear, +ℤ-*ℤ box.high_x (pos 1) p.w, one-*ℤ p.w, p.heavy))
 
     -- what is inside is in the box
     inside_held : (p : Point) → is_inside p ring ≡ true → IsInWindow box p

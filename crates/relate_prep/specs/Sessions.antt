@@ -17,6 +17,10 @@ pub record SeenSession : Type 0 where
   pub edge : SeenCell
   pub areas : List SeenCell
 
+-- Contracts count no looks of a session.
+abbrev pub looks_of : SeenSession → ℕ
+looks_of s = 0
+
 -- A session of the prepared figure that has asked for no cell.
 pub record IsNewSession (p : SeenPrepared) (s : SeenSession) : Type 0 where
   pub figure : s.figure ≡ p.figure

@@ -61,7 +61,8 @@ impl AskedAreas<'_, '_> {
     {
         // An index locates in an area that is valid alone.
         law_areas_of_valid_figures_are_valid();
-        match self.asked[place].index() {
+        let asked = self.asked;
+        match asked[place].index() {
             Some(index) => index.locate(n, &mut Count::new()),
             None => locate_plain(self.valid.figure().areas.at(place), n),
         }

@@ -5,16 +5,16 @@ use plane_exact::{NoMemory, Node, PlaceList, Window};
 use point_set::{DimLoc, Edge, EdgeId, Extent, Rule, Target, Valid};
 
 impl Target for Session<'_> {
-    ghost use Rattle.std.specs.Prelude.{◌≡◌, IfOk, OnOk};
+    ghost use Rattle.std.specs.Prelude.{◌≡◌, ◌+◌, ◌≤◌, IfOk, OnOk};
     ghost use Rattle.plane_exact.specs.NodePoints.{point_at};
     ghost use Rattle.point_set.specs.Edges.{ArePlacesIn, edges_of_figure};
     ghost use Rattle.point_set.specs.Location.{IsKind};
     ghost use Rattle.relate_prep.specs.Cells.{AreLater, IsLater, WasAsked};
-    ghost use Rattle.relate_prep.specs.Sessions.{AreAskedNear, AreKeptFar};
+    ghost use Rattle.relate_prep.specs.Sessions.{AreAskedNear, AreKeptFar, looks_of};
 
     ghost figure = { λ s. s.figure };
 
-    ghost looks = { λ s. 0 };
+    ghost looks = { λ s. looks_of s };
 
     fn valid(&self) -> &Valid {
         let basis = self.basis;
@@ -34,6 +34,8 @@ impl Target for Session<'_> {
     fn locate(&mut self, n: &Node, rule: Rule) -> Result<DimLoc, NoMemory>
         ensures kind { IfOk result (IsKind self.new.figure rule (point_at n.now)) }
         ensures figure { self.new.figure ≡ self.old.figure }
+        ensures looks_kept { looks_of self.old ≤ looks_of self.new }
+        ensures looks { looks_of self.new ≤ looks_of self.old + 1 }
         ensures edge_asked { OnOk result (WasAsked self.new.edge) }
         ensures edge_later { IsLater self.old.edge self.new.edge }
         ensures areas_asked { OnOk result (AreAskedNear self.new.figure.areas (point_at n.now) self.new.areas) }

@@ -2,12 +2,8 @@
 use Rattle.std.specs.Prelude.{map}
 use Rattle.once_cell.specs.Once.{cell_name}
 use Rattle.plane_exact.specs.NodePoints.{point_at}
-use Rattle.relate_prep.specs.Cells.{AreAreaCells}
-use Rattle.relate_prep.proofs.AskingCells.{AreAskedTo}
+use Rattle.relate_prep.proofs.AskingCells.{IsAskedSo}
 use Rattle.relate_prep.proofs.areas.ask_near.Given as goal
 
 abbrev pub invariant-loop-place : goal.invariant-loop-place
-invariant-loop-place l = record {
-  cells : AreAreaCells l.valid (map cell_name l.cells) l.asked;
-  to : AreAskedTo l.valid.areas (point_at l.n) l.fn.asked l.asked l.place;
-}
+invariant-loop-place l = IsAskedSo l.valid (point_at l.n) (map cell_name l.cells) l.fn.asked l.asked l.place

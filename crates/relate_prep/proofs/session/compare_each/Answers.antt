@@ -1,4 +1,4 @@
-use Rattle.std.proofs.Common.{◌≡◌, ◌<◌, List, length, ap, ◌∙◌, subst, arith}
+use Rattle.std.proofs.Common.{◌≡◌, ◌<◌, List, length, get_or, ap, ◌∙◌, subst, arith}
 use Rattle.std.specs.Prelude.{slice_set}
 use Rattle.std.proofs.lemmas.List.{set-get_or}
 use Rattle.std.proofs.lemmas.Option.{slice_get-get_or}
@@ -16,11 +16,14 @@ compare-requires c =
     let many = as_many cells others c.requires.names in
     let here : k < length c.loop-place.cells = omega (arith, c.loop-place-test.true, ap length i.same) in
     let there : k < length c.loop-place.others = omega (arith, here, many, ap length i.same, ap length i.others) in
+    let one = get_or c.loop-place.cells k c.index-cells-place.result in
+    let other = get_or c.loop-place.others k c.index-others-place.result in
     record {
       name =
-          same_name cells others c.requires.names k _ _
-          (subst (λ (xs : List SeenCell). IsAtPlace xs k _) i.same (slice_get-get_or c.loop-place.cells k _ here))
-          (subst (λ (xs : List SeenCell). IsAtPlace xs k _) i.others (slice_get-get_or c.loop-place.others k _ there));
+          same_name cells others c.requires.names k one other
+          (subst (λ (xs : List SeenCell). IsAtPlace xs k one) i.same (slice_get-get_or c.loop-place.cells k c.index-cells-place.result here))
+          (subst (λ (xs : List SeenCell). IsAtPlace xs k other) i.others
+          (slice_get-get_or c.loop-place.others k c.index-others-place.result there));
     }
 
 pub loop-place-preserved : goal.loop-place-preserved
@@ -32,13 +35,20 @@ loop-place-preserved c =
     let many = as_many cells others c.requires.names in
     let here : k < length c.loop-place.cells = omega (arith, c.loop-place-test.true, ap length i.same) in
     let there : k < length c.loop-place.others = omega (arith, here, many, ap length i.same, ap length i.others) in
+    let one = get_or c.loop-place.cells k c.index-cells-place.result in
+    let other = get_or c.loop-place.others k c.index-others-place.result in
     record {
-      same = ap (slice_set c.loop-place.cells k) c.compare.ensures.same ∙ set-get_or c.loop-place.cells k _ ∙ i.same;
-      others = ap (slice_set c.loop-place.others k) c.compare.ensures.other ∙ set-get_or c.loop-place.others k _ ∙ i.others;
+      same =
+          ap (slice_set c.loop-place.cells k) c.compare.ensures.same ∙ set-get_or c.loop-place.cells k c.index-cells-place.result ∙ i.same;
+      others =
+          ap (slice_set c.loop-place.others k) c.compare.ensures.other
+          ∙ set-get_or c.loop-place.others k c.index-others-place.result
+          ∙ i.others;
       known =
-          same_below_next cells others k i.known _ _
-          (subst (λ (xs : List SeenCell). IsAtPlace xs k _) i.same (slice_get-get_or c.loop-place.cells k _ here))
-          (subst (λ (xs : List SeenCell). IsAtPlace xs k _) i.others (slice_get-get_or c.loop-place.others k _ there)) c.compare.ensures.known;
+          same_below_next cells others k i.known one other
+          (subst (λ (xs : List SeenCell). IsAtPlace xs k one) i.same (slice_get-get_or c.loop-place.cells k c.index-cells-place.result here))
+          (subst (λ (xs : List SeenCell). IsAtPlace xs k other) i.others
+          (slice_get-get_or c.loop-place.others k c.index-others-place.result there)) c.compare.ensures.known;
     }
 
 pub returns-clause-known : goal.returns-clause-known
