@@ -6,7 +6,7 @@ use Rattle.std.proofs.lemmas.List.{map-append, flat_map_more}
 use Rattle.pair_batch.specs.Shares.{AreJoined}
 
 -- at first none is joined
-pub none_joined : {T E : Type 0} → AreJoined {T} {E} [] []
+pub none_joined : {T E : Type 0} → AreJoined {T = T} {E = E} [] []
 none_joined = record { lists = []; made_is = refl; all_is = refl }
 
 -- with one more list
