@@ -1,5 +1,5 @@
 -- The session stays that of the prepared figure, and there is one more answer.
-use Rattle.std.proofs.Common.{◌≡◌, [], ◌∷◌, ◌++◌, take, ap, sym, subst, ◌∙◌}
+use Rattle.std.proofs.Common.{[], ◌∷◌, ◌++◌, take, ap, sym, subst, ◌∙◌}
 use Rattle.std.proofs.lemmas.List.{take_more}
 use Rattle.relate_core.specs.Answers.{IsAnswerTo}
 use Rattle.pair_batch.proofs.Answering.{one_more_answer}
