@@ -1,12 +1,11 @@
 -- Lists that workers made, joined one after another.
-use Rattle.std.proofs.Common.{◌≡◌, List, [], ◌∷◌, ◌++◌, map, refl, sym, ap, ◌∙◌}
+use Rattle.std.proofs.Common.{List, [], ◌∷◌, ◌++◌, refl, sym, ap, ◌∙◌}
 use Rattle.std.specs.Prelude.{Result, Ok}
-use Rattle.std.specs.List.{flat_map}
 use Rattle.std.proofs.lemmas.List.{map-append, flat_map_more}
 use Rattle.pair_batch.specs.Shares.{AreJoined}
 
 -- at first none is joined
-pub none_joined : {T E : Type 0} → AreJoined {T} {E} [] []
+pub none_joined : {T E : Type 0} → AreJoined {T = T} {E = E} [] []
 none_joined = record { lists = []; made_is = refl; all_is = refl }
 
 -- with one more list

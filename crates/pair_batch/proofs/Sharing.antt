@@ -1,5 +1,5 @@
 -- The shares follow each other and cover the list, so the answers on the shares, joined, are those on the list.
-use Rattle.std.proofs.Common.{◌≡◌, ◌+◌, ◌-◌, ◌*◌, ◌/◌, ◌<◌, ◌≤◌, ℕ, zero, suc, List, [], ◌∷◌, ◌++◌, map, length, get_or, take, drop, refl, sym, ap, ◌∙◌, subst, arith}
+use Rattle.std.proofs.Common.{◌≡◌, ◌+◌, ◌-◌, ◌*◌, ◌/◌, ◌<◌, ◌≤◌, ℕ, zero, suc, List, [], ◌++◌, length, get_or, take, drop, sym, ap, ◌∙◌, subst, arith}
 use Rattle.std.specs.List.{flat_map, between}
 use Rattle.std.specs.Prelude.{Result, Ok, IfOk}
 use Rattle.std.proofs.Math.Nat.{div-mul-le_self, mul-div_cancel_left, zero-div}
@@ -36,14 +36,14 @@ take_onward : {X : Type 0} (xs : List X) (from to : ℕ) → from ≤ to → tak
 take_onward xs from to le =
     let e : from + (to - from) ≡ to = omega (arith, le) in
     let rest : drop from (take to xs) ≡ between from to xs
-        = subst (λ k. drop from (take k xs) ≡ take (to - from) (drop from xs)) e (drop-take from (to - from) xs) in
+    = subst (λ k. drop from (take k xs) ≡ take (to - from) (drop from xs)) e (drop-take from (to - from) xs) in
     sym (take-append-drop from (take to xs)) ∙ ap (λ front. front ++ drop from (take to xs)) (take-take from to xs le)
     ∙ ap (λ back. take from xs ++ back) rest
 
 -- the figures before the share of the next worker
 share_more : {X : Type 0} (list : List X) (workers worker : ℕ) → 0 < workers
     → take (share_begin (length list) workers (worker + 1)) list
-      ≡ take (share_begin (length list) workers worker) list ++ share_of list workers worker
+    ≡ take (share_begin (length list) workers worker) list ++ share_of list workers worker
 share_more list workers worker some =
     take_onward list (share_begin (length list) workers worker) (share_begin (length list) workers (worker + 1))
     (next_begin (length list) workers worker some)
@@ -66,14 +66,15 @@ module _ (query : Query) (a : Figure) (rule : Rule) (list : List Figure) (worker
   first_answers some count each zero below =
       subst (λ place. AreAnswersTo query a rule (take place list) []) (sym (first_begin (length list) workers)) (no_answers query a rule)
   first_answers some count each (suc k) below =
+      let next : k + 1 ≡ suc k = omega arith in
       let within : k < length lists = omega (arith, below, count) in
-      let both = answers_on_both query a rule (take (share_begin (length list) workers k) list) (share_of list workers k)
-          (flat_map (λ xs. xs) (take k lists)) (get_or lists k []) (first_answers some count each k (omega (arith, below)))
-          (each k (omega (arith, below))) in
-      subst (λ figures. AreAnswersTo query a rule figures (flat_map (λ xs. xs) (take (k + 1) lists)))
+      let before = take (share_begin (length list) workers k) list in
+      let both = answers_on_both query a rule before (share_of list workers k) (flat_map (λ xs. xs) (take k lists)) (get_or lists k [])
+      (first_answers some count each k (omega (arith, below))) (each k (omega (arith, below))) in
+      subst (λ n. AreAnswersTo query a rule (take (share_begin (length list) workers n) list) (flat_map (λ xs. xs) (take n lists))) next
+      (subst (λ figures. AreAnswersTo query a rule figures (flat_map (λ xs. xs) (take (k + 1) lists)))
       (sym (share_more list workers k some))
-      (subst (λ answers. AreAnswersTo query a rule (take (share_begin (length list) workers k) list ++ share_of list workers k) answers)
-      (sym (joined_more lists k within)) both)
+      (subst (AreAnswersTo query a rule (before ++ share_of list workers k)) (sym (joined_more lists k within)) both))
 
   -- and so all lists have those on the whole list
   pub all_answers : 0 < workers → length lists ≡ workers → AreByShares → AreAnswersTo query a rule list (flat_map (λ xs. xs) lists)
@@ -93,9 +94,9 @@ pub answers_joined : {E : Type 0} (query : Query) (a : Figure) (rule : Rule) (li
 answers_joined {E} query a rule list workers made all some count each are =
     let lists = are.lists in
     let as_many : length lists ≡ workers = sym (length-map lists Ok) ∙ ap length (sym are.made_is) ∙ count in
-    let is_made : (worker : ℕ) → worker < workers → get_or made worker (Ok []) ≡ Ok {List Answer} {E} (get_or lists worker [])
-        = λ worker below. ap (λ xs. get_or xs worker (Ok [])) are.made_is
-        ∙ get_or-map Ok lists worker [] (Ok []) (omega (arith, below, as_many)) in
+    let is_made : (worker : ℕ) → worker < workers → get_or made worker (Ok []) ≡ Ok (get_or lists worker [])
+    = λ worker below. ap (λ xs. get_or xs worker (Ok [])) are.made_is
+    ∙ get_or-map Ok lists worker [] (Ok []) (omega (arith, below, as_many)) in
     subst (AreAnswersTo query a rule list) (sym are.all_is)
     (all_answers query a rule list workers lists some as_many
     (λ worker below. IfOk-at_ok (AreAnswersTo query a rule (share_of list workers worker)) (is_made worker below) (each worker below)))
