@@ -37,11 +37,11 @@ pub fn answers<R: Threads + Sync, G: Gate>(
 {
     let asked = Question { rule, query };
     let workers = threads as usize;
-    let made = map_indices(
-        rt,
-        alloc,
-        workers,
-        &|worker| { answers_of_worker(alloc, prepared, list, asked, workers, worker, gate) },
-    )?;
+    let of_worker = |worker: usize| -> Result<AnswerList, NoMemory>
+        requires few { length list.now < 4294967296 }
+        requires workers { (0 < workers) × (workers ≤ 64) }
+        requires worker { worker < workers }
+    { answers_of_worker(alloc, prepared, list, asked, workers, worker, gate) };
+    let made = map_indices(rt, alloc, workers, &of_worker)?;
     joined(alloc, made)
 }

@@ -56,7 +56,7 @@ fn answers_to_all(
 ) -> Result<AnswerList, NoMemory>
     ensures answers { IfOk result (AreAnswersTo asked.query prepared.now.figure asked.rule figures.now) }
 {
-    let mut session = Plain::new(alloc, prepared.valid())?;
+    let mut session = prepared.session()?;
     let mut answers = AnswerList::new(alloc);
     for figure in figures {
         let mut plain = Plain::new(alloc, figure)?;

@@ -1,2 +1,4 @@
+mod Comparisons
 mod Knowing
 mod NewSessions
+mod Scans

@@ -46,6 +46,10 @@ pub record IsLater (old new : SeenCell) : Type 0 where
   pub known : IsKept old.known new.known
   pub origin : ¬ (old.origin ≡ Unused) → new.origin ≡ old.origin
 
+-- Where both know the value of their cell, the values have the same edges.
+abbrev pub KnowTheSame : SeenCell → SeenCell → Type 0
+KnowTheSame one other = (edges others : List Seg) → one.known ≡ Some edges → other.known ≡ Some others → edges ≡ others
+
 -- The cell was asked for.
 abbrev pub WasAsked : SeenCell → Type 0
 WasAsked c = ¬ (c.origin ≡ Unused)
@@ -57,6 +61,10 @@ IsUsed Made = ⊤
 IsUsed Found = ⊤
 IsUsed (Aside place) = ⊥
 
+-- The names of cells, in order.
+abbrev pub names_of : List SeenCell → List ℕ
+names_of cells = map (λ (c : SeenCell). c.name) cells
+
 -- A cell for certain edges of the figure.
 pub record IsCellOver (edges : List Seg) (name : ℕ) (c : SeenCell) : Type 0 where
   pub name_is : c.name ≡ name
@@ -65,5 +73,5 @@ pub record IsCellOver (edges : List Seg) (name : ℕ) (c : SeenCell) : Type 0 wh
 -- One cell for each area of the figure, in order.
 pub record AreAreaCells (f : Figure) (names : List ℕ) (cells : List SeenCell) : Type 0 where
   pub count : length names ≡ length f.areas
-  pub names_are : map (λ (c : SeenCell). c.name) cells ≡ names
+  pub names_are : names_of cells ≡ names
   pub origins : (place : ℕ) (c : SeenCell) → IsAtPlace cells place c → IsOrigin (area_edges f place) c.known c.origin

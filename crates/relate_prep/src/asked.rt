@@ -3,7 +3,7 @@ ghost use Rattle.std.specs.Option.{option_map};
 ghost use Rattle.once_cell.specs.Once.{cell_name};
 ghost use Rattle.plane_exact.specs.declared.point.Seg.{Seg};
 ghost use Rattle.edge_index.specs.Segments.{IsFirstDifference};
-ghost use Rattle.relate_prep.specs.Cells.{SeenCell, IsOrigin, IsLater, IsUsed, WasAsked, new_cell};
+ghost use Rattle.relate_prep.specs.Cells.{SeenCell, IsOrigin, IsLater, IsUsed, KnowTheSame, WasAsked, new_cell};
 ghost use Rattle.relate_prep.specs.declared.origin.Origin.{Origin};
 ghost use Rattle.relate_prep.specs.declared.origin.Origin.TheVariants as origin;
 
@@ -105,6 +105,16 @@ impl<'a, T: Indexed + Drop> Asked<'a, T> {
             self.index = index;
         }
         Ok(())
+    }
+
+    /// Compares with what another session knows of the same cell. It changes nothing and takes no memory.
+    pub(crate) fn compare(&mut self, other: &mut Asked<'_, T>)
+        requires name { self.old.name ≡ other.old.name }
+        ensures known { KnowTheSame self.old other.old }
+        ensures same { self.new ≡ self.old }
+        ensures other { other.new ≡ other.old }
+    {
+        self.note.compare(other.note.again());
     }
 }
 

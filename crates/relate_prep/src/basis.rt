@@ -1,5 +1,4 @@
 ghost use Rattle.std.specs.Prelude.{◌≡◌, IfOk};
-ghost use Rattle.union_locator.specs.Plains.{segs_of};
 
 use bound_rule::EndTable;
 use figure_extent::Extents;
@@ -8,6 +7,7 @@ use point_set::{EdgeRows, Valid};
 use ring_sides::edges_of;
 use std::alloc::Global;
 use std::marker::Model;
+use union_locator::segs_of;
 
 /// A valid figure, and what is made of it at once.
 #[derive(Drop)]
@@ -64,15 +64,4 @@ impl Basis {
             extents,
         })
     }
-}
-
-/// The segments of rows.
-fn segs_of(alloc: Global, rows: &EdgeRows) -> Result<SegList, NoMemory>
-    ensures segs { IfOk result (λ segs. segs ≡ segs_of rows.now) }
-{
-    let mut segs = SegList::new(alloc);
-    for row in rows.as_slice() {
-        segs.push(row.seg)?;
-    }
-    Ok(segs)
 }

@@ -2,12 +2,15 @@
 //! made by the session that first asks for them, and stand in cells that are set once, so that threads share them without a lock.
 #![tactic(auto)]
 
+mod areas;
 mod asked;
 mod basis;
+mod edges;
 mod origin;
 mod prepared;
 mod session;
 mod sources;
+mod target;
 #[cfg(test)]
 mod tests;
 

@@ -1,10 +1,12 @@
 ghost use Rattle.std.specs.Prelude.{◌≡◌, map, IfOk};
 ghost use Rattle.once_cell.specs.Once.{cell_name};
-ghost use Rattle.relate_prep.specs.Cells.{new_cell};
+ghost use Rattle.relate_prep.specs.Cells.{names_of, new_cell};
+ghost use Rattle.relate_prep.specs.Sessions.{KnowTheSameEach};
 
 use crate::asked::Asked;
 use crate::basis::Basis;
 use crate::origin::Origin;
+use crate::sources::AllEdges;
 use area_locator::AreaIndex;
 use edge_index::EdgeIndex;
 use once_cell::race::OnceBox;
@@ -15,14 +17,14 @@ use std::marker::Model;
 /// One user's view of a prepared figure.
 #[derive(Drop)]
 pub struct Session<'a> {
-    basis: &'a Basis,
+    pub(crate) basis: &'a Basis,
     edge_cell: &'a OnceBox<EdgeIndex>,
-    area_cells: &'a [OnceBox<AreaIndex>],
-    edge: Asked<'a, EdgeIndex>,
-    areas: Vec<Asked<'a, AreaIndex>>,
-    near: PlaceList,
-    looks: u64,
-    alloc: Global,
+    pub(crate) area_cells: &'a [OnceBox<AreaIndex>],
+    pub(crate) edge: Asked<'a, EdgeIndex>,
+    pub(crate) areas: Vec<Asked<'a, AreaIndex>>,
+    pub(crate) near: PlaceList,
+    pub(crate) looks: u64,
+    pub(crate) alloc: Global,
 }
 
 impl<'a> Model for Session<'a> {
@@ -39,10 +41,11 @@ impl<'a> Model for Session<'a> {
 }
 
 impl<'a> Session<'a> {
-    ghost use Rattle.std.specs.Prelude.{◌≡◌, ◌<◌, length, map, IfOk};
+    ghost use Rattle.std.specs.Prelude.{◌≡◌, ◌<◌, length, map, IfOk, OnOk};
     ghost use Rattle.once_cell.specs.Once.{cell_name};
     ghost use Rattle.point_set.specs.Validity.{IsAtPlace};
-    ghost use Rattle.relate_prep.specs.Cells.{SeenCell, new_cell};
+    ghost use Rattle.relate_prep.specs.Cells.{SeenCell, IsLater, KnowTheSame, WasAsked, new_cell};
+    ghost use Rattle.relate_prep.specs.Sessions.{AreOfOnePrepared, KnowTheSameEach};
 
     /// A session that has asked for no cell.
     pub(crate) fn over(
@@ -66,6 +69,37 @@ impl<'a> Session<'a> {
             looks: 0,
             alloc,
         })
+    }
+
+    /// Asks for the index of all edges.
+    ///
+    /// # Errors
+    /// `NoMemory`, and then nothing has changed.
+    pub(crate) fn ask_edges(&mut self) -> Result<(), NoMemory>
+        ensures figure { self.new.figure ≡ self.old.figure }
+        ensures asked { OnOk result (WasAsked self.new.edge) }
+        ensures later { IsLater self.old.edge self.new.edge }
+        ensures areas { self.new.areas ≡ self.old.areas }
+    {
+        let basis = self.basis;
+        let source = AllEdges {
+            alloc: self.alloc,
+            segs: &basis.segs,
+        };
+        self.edge.ask(self.alloc, self.edge_cell, &source)
+    }
+
+    /// Compares with another session of the same prepared figure: where both know the value of a cell, the two values have the
+    /// same edges. It changes nothing and takes no memory.
+    pub fn compare(&mut self, other: &mut Session<'_>)
+        requires one_prepared { AreOfOnePrepared self.old other.old }
+        ensures edge { KnowTheSame self.old.edge other.old.edge }
+        ensures areas { KnowTheSameEach self.old.areas other.old.areas }
+        ensures same { self.new ≡ self.old }
+        ensures other { other.new ≡ other.old }
+    {
+        self.edge.compare(&mut other.edge);
+        compare_each(self.areas.as_mut_slice(), other.areas.as_mut_slice());
     }
 
     /// How the session came to know the index of all edges. Takes no memory.
@@ -103,4 +137,16 @@ fn nothing_of<'a>(
         }
     }
     Ok(asked)
+}
+
+/// Compares what two sessions know of the same cells, one by one.
+fn compare_each(cells: &mut [Asked<'_, AreaIndex>], others: &mut [Asked<'_, AreaIndex>])
+    requires names { names_of cells.old ≡ names_of others.old }
+    ensures known { KnowTheSameEach cells.old others.old }
+    ensures same { cells.new ≡ cells.old }
+    ensures others { others.new ≡ others.old }
+{
+    for place in 0..cells.len() {
+        cells[place].compare(&mut others[place]);
+    }
 }

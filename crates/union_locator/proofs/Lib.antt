@@ -1,5 +1,6 @@
 mod AreaEdges
 mod AreaSections
+pub mod Laws
 mod MeetingPlaces
 mod NearEdges
 mod OnLines

@@ -10,4 +10,5 @@ mod plain;
 
 pub use areas::AreaLocs;
 pub use locate::locate_with;
+pub use places::segs_of;
 pub use plain::Plain;

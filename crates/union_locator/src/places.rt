@@ -41,8 +41,11 @@ impl IndexedRows {
     }
 }
 
-/// The segments of rows.
-fn segs_of(alloc: Global, rows: &EdgeRows) -> Result<SegList, NoMemory>
+/// The segments of rows, in order.
+///
+/// # Errors
+/// `NoMemory`.
+pub fn segs_of(alloc: Global, rows: &EdgeRows) -> Result<SegList, NoMemory>
     ensures segs { IfOk result (λ segs. segs ≡ segs_of rows.now) }
 {
     let mut segs = SegList::new(alloc);

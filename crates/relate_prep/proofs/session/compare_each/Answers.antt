@@ -1,0 +1,47 @@
+use Rattle.std.proofs.Common.{◌≡◌, ◌<◌, List, length, ap, ◌∙◌, subst, arith}
+use Rattle.std.specs.Prelude.{slice_set}
+use Rattle.std.proofs.lemmas.List.{set-get_or}
+use Rattle.std.proofs.lemmas.Option.{slice_get-get_or}
+use Rattle.point_set.specs.Validity.{IsAtPlace}
+use Rattle.relate_prep.specs.Cells.{SeenCell}
+use Rattle.relate_prep.proofs.Comparisons.{as_many, same_name, same_below_next, same_each}
+use Rattle.relate_prep.proofs.session.compare_each.Goals as goal
+
+pub compare-requires : goal.compare-requires
+compare-requires c =
+    let k = c.loop-place.place in
+    let cells = c.args.cells.now in
+    let others = c.args.others.now in
+    let i = c.loop-place.invariant in
+    let many = as_many cells others c.requires.names in
+    let here : k < length c.loop-place.cells = omega (arith, c.loop-place-test.true, ap length i.same) in
+    let there : k < length c.loop-place.others = omega (arith, here, many, ap length i.same, ap length i.others) in
+    record {
+      name =
+          same_name cells others c.requires.names k _ _
+          (subst (λ (xs : List SeenCell). IsAtPlace xs k _) i.same (slice_get-get_or c.loop-place.cells k _ here))
+          (subst (λ (xs : List SeenCell). IsAtPlace xs k _) i.others (slice_get-get_or c.loop-place.others k _ there));
+    }
+
+pub loop-place-preserved : goal.loop-place-preserved
+loop-place-preserved c =
+    let k = c.loop-place.place in
+    let cells = c.args.cells.now in
+    let others = c.args.others.now in
+    let i = c.loop-place.invariant in
+    let many = as_many cells others c.requires.names in
+    let here : k < length c.loop-place.cells = omega (arith, c.loop-place-test.true, ap length i.same) in
+    let there : k < length c.loop-place.others = omega (arith, here, many, ap length i.same, ap length i.others) in
+    record {
+      same = ap (slice_set c.loop-place.cells k) c.compare.ensures.same ∙ set-get_or c.loop-place.cells k _ ∙ i.same;
+      others = ap (slice_set c.loop-place.others k) c.compare.ensures.other ∙ set-get_or c.loop-place.others k _ ∙ i.others;
+      known =
+          same_below_next cells others k i.known _ _
+          (subst (λ (xs : List SeenCell). IsAtPlace xs k _) i.same (slice_get-get_or c.loop-place.cells k _ here))
+          (subst (λ (xs : List SeenCell). IsAtPlace xs k _) i.others (slice_get-get_or c.loop-place.others k _ there)) c.compare.ensures.known;
+    }
+
+pub returns-clause-known : goal.returns-clause-known
+returns-clause-known c =
+    let i = c.loop-place.invariant in
+    same_each c.args.cells.now c.args.others.now c.loop-place.place i.known (omega (arith, c.loop-place-test.false, ap length i.same))
