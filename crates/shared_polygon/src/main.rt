@@ -4,11 +4,11 @@
 
 mod places;
 
-use crate::places::kinds_of;
+use crate::places::{SHARE, kinds_by_share};
 use geom_valid::{AdmitFault, admit};
 use im_matrix::Loc;
-use plane_exact::NoMemory;
-use point_set::Valid;
+use plane_exact::{NoMemory, Pt};
+use point_set::{DimLoc, Valid};
 use relate_prep::Prepared;
 use std::alloc::Global;
 use std::io;
@@ -87,8 +87,16 @@ fn answer<R: Runtime + Threads + Sync + AllocGlobal>(rt: &R) -> Result<(), Stop>
     let court = Prepared::new(alloc, figure_of(alloc, COURT)?)?;
     let asked = figure_of(alloc, POINTS)?;
     let points = asked.figure().points.as_slice();
-    let kinds = kinds_of(rt, alloc, &court, points)?;
-    for (p, kind) in points.iter().zip(&kinds) {
+    let shares = kinds_by_share(rt, alloc, &court, points)?;
+    for (share, kinds) in points.chunks(SHARE).zip(shares) {
+        print_share(rt, share, kinds?.as_slice())?;
+    }
+    Ok(())
+}
+
+/// Prints where each point of a share lies.
+fn print_share<R: Runtime>(rt: &R, share: &[Pt], kinds: &[DimLoc]) -> io::Result<()> {
+    for (p, kind) in share.iter().zip(kinds) {
         println!(rt; "POINT ({} {}) {}", p.x, p.y, name_of(kind.loc()))?;
     }
     Ok(())
