@@ -1,7 +1,8 @@
 -- The kinds of points, one point after the other.
-use Rattle.std.proofs.Common.{◌≡◌, ◌+◌, ◌*◌, ◌/◌, ◌%◌, ◌<◌, ◌≤◌, ℕ, List, [], ◌∷◌, ◌++◌, length, get_or, take, sym, ap, ◌∙◌, subst, absurd, arith}
+use Rattle.std.proofs.Common.{◌≡◌, ◌+◌, ◌*◌, ◌/◌, ◌%◌, ◌<◌, ◌≤◌, ℕ, List, [], ◌∷◌, ◌++◌, length, get_or, take, sym, subst, arith}
 use Rattle.std.proofs.lemmas.List.{take_more}
 use Rattle.std.proofs.lemmas.Grind.{div_ceil_times}
+use Rattle.plane_laws.specs.Plane.{Point}
 use Rattle.plane_exact.specs.Places.{point_of}
 use Rattle.plane_exact.specs.declared.point.Pt.{Pt}
 use Rattle.point_set.specs.Location.{IsKind}
@@ -22,10 +23,14 @@ module _ (f : Figure) where
   kinds_push (q ∷ points) p [] kind are one = absurd are
   kinds_push (q ∷ points) p (k ∷ kinds) kind are one = (are.0, kinds_push points p kinds kind are.1 one)
 
-  -- with the kind of the next point
-  pub one_more_kind : (points : List Pt) (i : ℕ) (p : Pt) (kinds : List DimLoc) (kind : DimLoc) → i < length points
-      → p ≡ get_or points i p → AreKinds f (take i points) kinds → IsKind f Mod2 (point_of p) kind
-      → AreKinds f (take (i + 1) points) (kinds ++ kind ∷ [])
-  one_more_kind points i p kinds kind below is are one =
-      let joined = ap (λ q. take i points ++ q ∷ []) is ∙ sym (take_more points i p below) in
-      subst (λ some. AreKinds f some (kinds ++ kind ∷ [])) joined (kinds_push (take i points) p kinds kind are one)
+  -- with the kind of the next point, found by a session of the same figure at the node there
+  pub one_more_kind : (points items : List Pt) (i : ℕ) (d : Pt) (kinds : List DimLoc) (kind : DimLoc) (g : Figure) (node : Point)
+      → items ≡ points → i < length items → g ≡ f → node ≡ point_of (get_or items i d) → IsKind g Mod2 node kind
+      → AreKinds f (take i points) kinds → AreKinds f (take (i + 1) points) (kinds ++ kind ∷ [])
+  one_more_kind points items i d kinds kind g node all below same here is are =
+      let of_f = subst (λ figure. IsKind figure Mod2 node kind) same is in
+      let one = subst (λ q. IsKind f Mod2 q kind) here of_f in
+      let front = subst (λ some. AreKinds f (take i some) kinds) (sym all) are in
+      subst (λ some. AreKinds f (take (i + 1) some) (kinds ++ kind ∷ [])) all
+      (subst (λ some. AreKinds f some (kinds ++ kind ∷ [])) (sym (take_more items i d below))
+      (kinds_push (take i items) (get_or items i d) kinds kind front one))

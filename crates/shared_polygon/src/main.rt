@@ -11,7 +11,6 @@ use plane_exact::{NoMemory, Pt};
 use point_set::{DimLoc, Valid};
 use relate_prep::Prepared;
 use std::alloc::Global;
-use std::io;
 use std::process::ExitCode;
 use std::rt::Runtime;
 use std::thread::Threads;
@@ -25,34 +24,17 @@ const POINTS: &str = "MULTIPOINT ((1 1), (0 4), (4 5), (10 4), (9 9), (3 3), (6 
 /// Why the program ends early.
 #[derive(Clone, Copy)]
 enum Stop {
-    /// A text isn't that of a valid geometry.
+    /// A text isn't that of a valid geometry: status 2.
     Refused,
-    /// Standard output took less than it was given.
+    /// Standard output took less than it was given: status 4.
     NotWritten,
-    /// Memory is wanting.
+    /// Memory is wanting: status 5.
     NoMemory,
-}
-
-impl Stop {
-    /// The exit status, as `geosop` has it.
-    fn status(self) -> u8 {
-        match self {
-            Stop::Refused => 2,
-            Stop::NotWritten => 4,
-            Stop::NoMemory => 5,
-        }
-    }
 }
 
 impl From<NoMemory> for Stop {
     fn from(_: NoMemory) -> Stop {
         Stop::NoMemory
-    }
-}
-
-impl From<io::Error> for Stop {
-    fn from(_: io::Error) -> Stop {
-        Stop::NotWritten
     }
 }
 
@@ -77,7 +59,9 @@ impl From<AdmitFault> for Stop {
 fn main(rt: HostRuntime) -> ExitCode {
     match answer(&rt) {
         Ok(()) => ExitCode::from(0),
-        Err(stop) => ExitCode::from(stop.status()),
+        Err(Stop::Refused) => ExitCode::from(2),
+        Err(Stop::NotWritten) => ExitCode::from(4),
+        Err(Stop::NoMemory) => ExitCode::from(5),
     }
 }
 
@@ -95,9 +79,10 @@ fn answer<R: Runtime + Threads + Sync + AllocGlobal>(rt: &R) -> Result<(), Stop>
 }
 
 /// Prints where each point of a share lies.
-fn print_share<R: Runtime>(rt: &R, share: &[Pt], kinds: &[DimLoc]) -> io::Result<()> {
+fn print_share<R: Runtime>(rt: &R, share: &[Pt], kinds: &[DimLoc]) -> Result<(), Stop> {
     for (p, kind) in share.iter().zip(kinds) {
-        println!(rt; "POINT ({} {}) {}", p.x, p.y, name_of(kind.loc()))?;
+        println!(rt; "POINT ({} {}) {}", p.x, p.y, name_of(kind.loc()))
+            .map_err(|_| Stop::NotWritten)?;
     }
     Ok(())
 }

@@ -3,7 +3,7 @@ ghost use Rattle.point_set.specs.Shape.{IsWayInLimit};
 ghost use Rattle.shared_polygon.specs.Places.{share_of, AreKinds, AreKindsByShare};
 
 use plane_exact::{NoMemory, Node, Pt};
-use point_set::{DimLoc, Rule};
+use point_set::{DimLoc, Rule, Target};
 use relate_prep::Prepared;
 use std::alloc::Global;
 use std::thread::{Threads, map_indices};
@@ -11,7 +11,7 @@ use std::thread::{Threads, map_indices};
 /// How many points a thread answers at most.
 pub(crate) const SHARE: usize = 3;
 
-/// The kinds of the points of a share, where its thread didn't want memory.
+/// What a thread answers on its share.
 pub(crate) type ShareKinds = Result<Vec<DimLoc>, NoMemory>;
 
 /// Where the points lie in the prepared figure, share by share. Each share is answered in a thread of its own, where one can be made.
@@ -28,10 +28,9 @@ pub(crate) fn kinds_by_share<R: Threads + Sync>(
     ensures kinds { IfOk result (λ shares. AreKindsByShare prepared.now.figure points.now shares.items) }
 {
     let count = points.len().div_ceil(SHARE);
-    let shares = map_indices(rt, alloc, count, &|place| {
+    Ok(map_indices(rt, alloc, count, &|place| {
         share_kinds(alloc, prepared, points, place)
-    })?;
-    Ok(shares)
+    })?)
 }
 
 /// Where the points of the share at a place lie: what one thread does, by a session of its own.
