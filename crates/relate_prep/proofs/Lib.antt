@@ -1,4 +1,5 @@
 mod Comparisons
+mod Items
 mod Knowing
 mod NewSessions
 mod Scans
