@@ -22,10 +22,6 @@ before_or_last (y ∷ xs) x z (suc place) at = elim (before_or_last xs x z place
   | inr h ↦ inr (record { here = ap (λ n. suc n) h.here; same = h.same })
 ]
 
--- no area has no box
-pub no_boxes : AreShellBoxes [] []
-no_boxes = record { count = refl; each = λ place area box at at_box. cc }
-
 -- one area more
 pub box_more :
     (areas : List Area) (boxes : List Window) (area : Area) (box : Window) → AreShellBoxes areas boxes → IsShellBox area box
