@@ -1,4 +1,4 @@
-use Rattle.std.proofs.Common.{◌≡◌, List, ap, ◌∙◌, subst}
+use Rattle.std.proofs.Common.{List, ap, ◌∙◌, subst}
 use Rattle.relate_prep.specs.Cells.{SeenCell}
 use Rattle.relate_prep.specs.Sessions.{SeenSession, KnowTheSameEach}
 use Rattle.relate_prep.proofs.session.Session.compare.Goals as goal
