@@ -62,28 +62,15 @@ item_at (x ∷ xs) zero below = record { item = x; at = refl }
 item_at (x ∷ xs) (suc k) below = let h = item_at xs k (omega (arith, below)) in record { item = h.item; at = h.at }
 
 -- ---- one cell, later
-pub later_self : (c : SeenCell) → IsLater c c
-later_self c = record { name = refl; known = λ x is. is; origin = λ asked. refl }
-
-pub later_trans : {a b c : SeenCell} → IsLater a b → IsLater b c → IsLater a c
+later_trans : {a b c : SeenCell} → IsLater a b → IsLater b c → IsLater a c
 later_trans h k = record {
   name = k.name ∙ h.name;
   known = λ x is. k.known x (h.known x is);
   origin = λ asked. k.origin (λ unused. asked (sym (h.origin asked) ∙ unused)) ∙ h.origin asked;
 }
 
--- what was asked for stays asked for
-still_asked : {c d : SeenCell} → IsLater c d → WasAsked c → WasAsked d
-still_asked h asked unused = asked (sym (h.origin asked) ∙ unused)
-
 -- ---- all cells, later
-pub all_later_self : (cells : List SeenCell) → AreLater cells cells
-all_later_self cells = record {
-  count = refl;
-  each = λ place c d is_c is_d. subst (λ z. IsLater c z) (some_same (sym is_c ∙ is_d)) (later_self c);
-}
-
-pub later_at :
+later_at :
     (old new : List SeenCell) (k : ℕ) (c d : SeenCell) → AreLater old new → IsAtPlace new k c → IsLater c d → AreLater old (set new k d)
 later_at old new k c d later at here = record {
   count = length-set new k d ∙ later.count;
@@ -140,14 +127,6 @@ pub record IsAskedSo (f : Figure) (p : Point) (names : List ℕ) (old new : List
   pub cells : AreAreaCells f names new
   pub to : AreAskedTo f.areas p old new count
 
--- none at first
-pub asked_to_none : (areas : List Area) (p : Point) (cells : List SeenCell) → AreAskedTo areas p cells cells 0
-asked_to_none areas p cells = record {
-  later = all_later_self cells;
-  kept = λ place area is far. refl;
-  asked = λ place below area c is is_c near. absurd (omega (arith, below));
-}
-
 -- an area that isn't near is passed by
 pub asked_past :
     (areas : List Area) (p : Point) (old new : List SeenCell) (k : ℕ) (area : Area) → AreAskedTo areas p old new k
@@ -162,7 +141,7 @@ asked_past areas p old new k area to at far = record {
 }
 
 -- the cells of far areas stay where that of a near one changes
-pub kept_at :
+kept_at :
     (areas : List Area) (p : Point) (old new : List SeenCell) (k : ℕ) (area : Area) (d : SeenCell) → AreKeptFar areas p old new
     → IsAtPlace areas k area → IsShellNear area p → AreKeptFar areas p old (set new k d)
 kept_at areas p old new k area d kept at near place other is far = elim (cases_eq place k) [

@@ -21,7 +21,7 @@ use Rattle.point_set.specs.Validity.{IsAtPlace, CrossesItself, EdgesShareSegment
 use Rattle.figure_laws.proofs.Edges.Lists.{none_joined}
 use Rattle.figure_laws.proofs.Edges.Windows.{one_least_window}
 use Rattle.side_laws.proofs.Areas.Hands.{AreRingsClean, area_clean, hole_shaped}
-use Rattle.valid_laws.specs.Entering.{disc_of, IsSimpleRing}
+use Rattle.valid_laws.specs.Entering.{IsSimpleRing}
 use Rattle.valid_laws.proofs.Clauses.OverAllPoints.{disc_location}
 use Rattle.valid_laws.proofs.Clauses.Laws.{hole_outside}
 use Rattle.relate_prep.specs.Shells.{IsShellBox, IsShellNear}

@@ -1,5 +1,5 @@
 -- The boxes of the shells of areas, as a pass over the areas collects them.
-use Rattle.std.proofs.Common.{◌≡◌, ◌⊎◌, inl, inr, ℕ, zero, suc, ◌+◌, ◌<◌, List, [], ◌∷◌, ◌++◌, length, take, get_or, ap, refl, sym, ◌∙◌, subst, arith, length-append}
+use Rattle.std.proofs.Common.{◌≡◌, ◌⊎◌, inl, inr, ℕ, zero, suc, ◌+◌, List, [], ◌∷◌, ◌++◌, length, take, ap, refl, sym, ◌∙◌, subst, arith, length-append}
 use Rattle.std.proofs.lemmas.List.{take_more}
 use Rattle.std.proofs.lemmas.Option.{slice_get_within, get_or_from_slice_get}
 use Rattle.plane_exact.specs.declared.window.Window.{Window}
@@ -21,10 +21,6 @@ before_or_last (y ∷ xs) x z (suc place) at = elim (before_or_last xs x z place
   | inl h ↦ inl h
   | inr h ↦ inr (record { here = ap (λ n. suc n) h.here; same = h.same })
 ]
-
--- no area has no box
-pub no_boxes : AreShellBoxes [] []
-no_boxes = record { count = refl; each = λ place area box at at_box. cc }
 
 -- one area more
 pub box_more :

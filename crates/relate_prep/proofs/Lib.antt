@@ -2,6 +2,7 @@ mod AskingCells
 mod BeyondShells
 mod BoxLists
 mod Comparisons
+mod Items
 mod Knowing
 mod NewSessions
 mod RingBoxes

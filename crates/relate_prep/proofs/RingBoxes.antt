@@ -1,13 +1,12 @@
 -- The least box of a ring's positions holds all that is on its edges or inside of it.
-use Rattle.std.proofs.Common.{◌≡◌, ℤ, pos, negsuc, neg_ℤ, ◌+ℤ◌, ◌-ℤ◌, ◌*ℤ◌, ◌≤ℤ◌, ◌<ℤ◌, Bool, true, false, not, ◌&&◌, List, [], ◌∷◌, refl, sym, ◌∙◌, subst, arith}
-use Rattle.std.specs.Prelude.{Some, int_le}
+use Rattle.std.proofs.Common.{◌≡◌, pos, negsuc, neg_ℤ, ◌+ℤ◌, ◌-ℤ◌, ◌*ℤ◌, ◌≤ℤ◌, ◌<ℤ◌, Bool, true, false, not, ◌&&◌, List, [], ◌∷◌, refl, sym, ◌∙◌, arith}
+use Rattle.std.specs.Prelude.{Some}
 use Rattle.std.specs.List.{AllByRecursion}
 use Rattle.std.proofs.lemmas.Bool.{false≢true, or_from, or_left, or_right, false_from_ne_true}
-use Rattle.std.proofs.lemmas.Int.{ints}
 use Rattle.whole_algebra.proofs.Laws.{linear, *ℤ_one, +ℤ-*ℤ, one-*ℤ}
 use Rattle.whole_algebra.proofs.Polynomials.{var, num, ◌⊕◌, ◌⊖◌, ◌⊗◌, minus, identity}
 use Rattle.whole_algebra.proofs.Signs.{not_<ℤ, scale_≤ℤ_right}
-use Rattle.plane_laws.specs.Plane.{Point, IsOnSegment, turn}
+use Rattle.plane_laws.specs.Plane.{Point, turn}
 use Rattle.plane_laws.proofs.Near.Parted.{Affine, at_point}
 use Rattle.plane_laws.proofs.Points.Same.{same_refl, Decides-is_same_point}
 use Rattle.plane_laws.proofs.Segments.On.{Decides-int_le}

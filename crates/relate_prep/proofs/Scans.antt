@@ -5,7 +5,7 @@ use Rattle.std.specs.List.Sorted.{IsStrictlyIncreasing}
 use Rattle.std.proofs.lemmas.List.Elements.{All-nil, All-push, All-weaker, Contains-push, Contains-append_left}
 use Rattle.std.proofs.lemmas.Bool.{cases_lt}
 use Rattle.std.proofs.lemmas.List.{length-map, length_push, get_or_append_left, get_or_push}
-use Rattle.std.proofs.lemmas.Option.{slice_get_within, slice_get-get_or}
+use Rattle.std.proofs.lemmas.Option.{slice_get_within}
 use Rattle.plane_exact.specs.Windows.{HasCommonPoint, IsLeastWindow}
 use Rattle.plane_exact.specs.declared.window.Window.{Window}
 use Rattle.point_set.specs.declared.edge.Edge.{Edge}
@@ -15,6 +15,7 @@ use Rattle.figure_laws.proofs.Edges.Windows.{meets_by_least}
 use Rattle.figure_laws.proofs.Lists.Places.{some_same}
 use Rattle.ring_sides.specs.Rows.{owned_edge, owned_edges}
 use Rattle.union_locator.proofs.Laws.{image_at}
+use Rattle.relate_prep.proofs.Items.{item_read}
 
 -- The places below k of the rows that meet the window.
 pub record ArePlacesBelow (w : Window) (rows : List Edge) (k : ℕ) (out : List ℕ) : Type 0 where
@@ -97,10 +98,6 @@ module _ (w : Window) (rows : List Edge) (k : ℕ) (row : Edge) (is : IsAtPlace 
           absurd (at_k (subst (λ (z : ℕ). MeetsAtPlace w (owned_edges rows) z) same m))
 
 -- ---- as a pass reads the rows
--- the row that is read at a place
-item_read : (items rows : List Edge) (k : ℕ) (d : Edge) → items ≡ rows → k < length items → IsAtPlace rows k (get_or items k d)
-item_read items rows k d same below = subst (λ (xs : List Edge). IsAtPlace xs k (get_or items k d)) same (slice_get-get_or items k d below)
-
 -- A row that meets the window comes to the list.
 pub pushed : (w : Window) (items rows : List Edge) (k : ℕ) (d : Edge) {box : Window} (out new : List ℕ) → items ≡ rows → k < length items
     → IsLeastWindow (IsOnEdge (get_or items k d).seg) box → HasCommonPoint box w → ArePlacesBelow w rows k out → new ≡ out ++ k ∷ []

@@ -32,9 +32,8 @@ pub record IsSession (segs : List Seg) (edge_cell : ℕ) (area_cells : List ℕ)
   pub edge : IsCellOver segs edge_cell s.edge
   pub areas : AreAreaCells s.figure area_cells s.areas
 
--- Two sessions of one prepared figure: they have the same figure, and the cells of both have the same names.
+-- Two sessions of one prepared figure: the cells of both have the same names.
 pub record AreOfOnePrepared (one other : SeenSession) : Type 0 where
-  pub figure : one.figure ≡ other.figure
   pub edge : one.edge.name ≡ other.edge.name
   pub areas : names_of one.areas ≡ names_of other.areas
 

@@ -1,10 +1,8 @@
-use Rattle.std.proofs.Common.{◌≡◌, ◌<◌, List, length, get_or, ap, ◌∙◌, subst, arith}
+use Rattle.std.proofs.Common.{◌<◌, length, get_or, ap, ◌∙◌, arith}
 use Rattle.std.specs.Prelude.{slice_set}
 use Rattle.std.proofs.lemmas.List.{set-get_or}
-use Rattle.std.proofs.lemmas.Option.{slice_get-get_or}
-use Rattle.point_set.specs.Validity.{IsAtPlace}
-use Rattle.relate_prep.specs.Cells.{SeenCell}
 use Rattle.relate_prep.proofs.Comparisons.{as_many, same_name, same_below_next, same_each}
+use Rattle.relate_prep.proofs.Items.{item_read}
 use Rattle.relate_prep.proofs.session.compare_each.Goals as goal
 
 pub compare-requires : goal.compare-requires
@@ -14,16 +12,14 @@ compare-requires c =
     let others = c.args.others.now in
     let i = c.loop-place.invariant in
     let many = as_many cells others c.requires.names in
+    let d = c.index-cells-place.result in
+    let e = c.index-others-place.result in
     let here : k < length c.loop-place.cells = omega (arith, c.loop-place-test.true, ap length i.same) in
     let there : k < length c.loop-place.others = omega (arith, here, many, ap length i.same, ap length i.others) in
-    let one = get_or c.loop-place.cells k c.index-cells-place.result in
-    let other = get_or c.loop-place.others k c.index-others-place.result in
     record {
       name =
-          same_name cells others c.requires.names k one other
-          (subst (λ (xs : List SeenCell). IsAtPlace xs k one) i.same (slice_get-get_or c.loop-place.cells k c.index-cells-place.result here))
-          (subst (λ (xs : List SeenCell). IsAtPlace xs k other) i.others
-          (slice_get-get_or c.loop-place.others k c.index-others-place.result there));
+          same_name cells others c.requires.names k (get_or c.loop-place.cells k d) (get_or c.loop-place.others k e)
+          (item_read c.loop-place.cells cells k d i.same here) (item_read c.loop-place.others others k e i.others there);
     }
 
 pub loop-place-preserved : goal.loop-place-preserved
@@ -33,22 +29,16 @@ loop-place-preserved c =
     let others = c.args.others.now in
     let i = c.loop-place.invariant in
     let many = as_many cells others c.requires.names in
+    let d = c.index-cells-place.result in
+    let e = c.index-others-place.result in
     let here : k < length c.loop-place.cells = omega (arith, c.loop-place-test.true, ap length i.same) in
     let there : k < length c.loop-place.others = omega (arith, here, many, ap length i.same, ap length i.others) in
-    let one = get_or c.loop-place.cells k c.index-cells-place.result in
-    let other = get_or c.loop-place.others k c.index-others-place.result in
     record {
-      same =
-          ap (slice_set c.loop-place.cells k) c.compare.ensures.same ∙ set-get_or c.loop-place.cells k c.index-cells-place.result ∙ i.same;
-      others =
-          ap (slice_set c.loop-place.others k) c.compare.ensures.other
-          ∙ set-get_or c.loop-place.others k c.index-others-place.result
-          ∙ i.others;
+      same = ap (slice_set c.loop-place.cells k) c.compare.ensures.same ∙ set-get_or c.loop-place.cells k d ∙ i.same;
+      others = ap (slice_set c.loop-place.others k) c.compare.ensures.other ∙ set-get_or c.loop-place.others k e ∙ i.others;
       known =
-          same_below_next cells others k i.known one other
-          (subst (λ (xs : List SeenCell). IsAtPlace xs k one) i.same (slice_get-get_or c.loop-place.cells k c.index-cells-place.result here))
-          (subst (λ (xs : List SeenCell). IsAtPlace xs k other) i.others
-          (slice_get-get_or c.loop-place.others k c.index-others-place.result there)) c.compare.ensures.known;
+          same_below_next cells others k i.known (get_or c.loop-place.cells k d) (get_or c.loop-place.others k e)
+          (item_read c.loop-place.cells cells k d i.same here) (item_read c.loop-place.others others k e i.others there) c.compare.ensures.known;
     }
 
 pub returns-clause-known : goal.returns-clause-known
