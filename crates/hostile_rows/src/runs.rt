@@ -2,8 +2,9 @@
 ghost use Rattle.std.specs.Prelude.{◌≡◌, None};
 
 use geosop_io::{MemInputs, MemSink, NamedBytes};
-use geosop_run::{Free, Status, run};
+use geosop_run::{Status, run};
 use im_matrix::Which;
+use pair_batch::Free;
 use plane_exact::{NoMemory, PlaceList};
 use std::alloc::{AllocError, Global};
 use std::test::*;

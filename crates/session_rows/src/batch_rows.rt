@@ -2,9 +2,9 @@
 use crate::figures::{FIVE, SQUARE, figure_of, figures_of, first_of};
 use im_matrix::Name;
 use pair_batch::{AnswerList, Free, answers};
-use plane_exact::NoMemory;
-use point_set::{Rule, Valid};
-use relate_prep::Prepared;
+use plane_exact::{NoMemory, PlaceList, Window};
+use point_set::{Rule, Target, Valid};
+use relate_prep::{Origin, Prepared};
 use sample_figures::sample;
 use std::alloc::Global;
 use std::process::Abort;
@@ -52,6 +52,25 @@ fn a_square_meets_four_of_five_by_any_threads(rt: HostRuntime) -> Result<(), Fai
         let told = answers_by(&rt, &prepared, figures.as_slice(), query, threads)?;
         assert_eq!(rt; told.as_slice(), MEETS.as_slice(), "by {threads} threads");
     }
+    Ok(())
+}
+
+#[test]
+fn a_session_after_a_batch_finds_the_index(rt: HostRuntime) -> Result<(), Fail> {
+    let prepared = Prepared::new(rt.alloc(), figure_of(rt.alloc(), SQUARE)?)?;
+    let figures = figures_of(rt.alloc(), &FIVE)?;
+    let told = answers_by(&rt, &prepared, figures.as_slice(), Query::Relate, 1)?;
+    assert_eq!(rt; told.len(), 5);
+    let mut session = prepared.session()?;
+    assert_eq!(rt; session.edge_origin(), Origin::Unused);
+    let corner = Window {
+        low_x: 0,
+        low_y: 0,
+        high_x: 1,
+        high_y: 1,
+    };
+    session.edges_in(corner, &mut PlaceList::new(rt.alloc()))?;
+    assert_eq!(rt; session.edge_origin(), Origin::Found);
     Ok(())
 }
 
