@@ -19,7 +19,8 @@ use wkt_text::{Scale, WktFault, read_next};
 /// A square court round a square pond.
 const COURT: &str = "POLYGON ((0 0, 9 0, 9 9, 0 9, 0 0), (3 3, 6 3, 6 6, 3 6, 3 3))";
 
-const POINTS: &str = "MULTIPOINT ((1 1), (0 4), (4 5), (10 4), (9 9), (3 3), (6 5), (8 4), (1 3), (5 7), (4 9), (-1 9))";
+const POINTS: &str =
+    "MULTIPOINT ((1 1), (0 4), (4 5), (10 4), (9 9), (3 3), (6 5), (8 4), (1 3), (5 7), (4 9), (-1 9))";
 
 /// Why the program ends early.
 #[derive(Clone, Copy)]
@@ -81,8 +82,9 @@ fn answer<R: Runtime + Threads + Sync + AllocGlobal>(rt: &R) -> Result<(), Stop>
 /// Prints where each point of a share lies.
 fn print_share<R: Runtime>(rt: &R, share: &[Pt], kinds: &[DimLoc]) -> Result<(), Stop> {
     for (p, kind) in share.iter().zip(kinds) {
-        println!(rt; "POINT ({} {}) {}", p.x, p.y, name_of(kind.loc()))
-            .map_err(|_| Stop::NotWritten)?;
+        println!(rt; "POINT ({} {}) {}", p.x, p.y, name_of(kind.loc())).map_err(
+            |_| Stop::NotWritten,
+        )?;
     }
     Ok(())
 }

@@ -28,9 +28,12 @@ pub(crate) fn kinds_by_share<R: Threads + Sync>(
     ensures kinds { IfOk result (λ shares. AreKindsByShare prepared.now.figure points.now shares.items) }
 {
     let count = points.len().div_ceil(SHARE);
-    Ok(map_indices(rt, alloc, count, &|place| {
-        share_kinds(alloc, prepared, points, place)
-    })?)
+    Ok(map_indices(
+        rt,
+        alloc,
+        count,
+        &|place| { share_kinds(alloc, prepared, points, place) },
+    )?)
 }
 
 /// Where the points of the share at a place lie: what one thread does, by a session of its own.
