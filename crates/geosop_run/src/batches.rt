@@ -46,7 +46,7 @@ fn offer_batch<R: Threads + Sync, O: Sink, G: Gate>(
         batch,
         asked.rule,
         asked.query,
-        workers.count,
+        workers.for_batch(batch).count,
         means.gate,
     )?;
     offer_answers(out, made.as_slice())?;

@@ -14,7 +14,7 @@ use Rattle.point_set.specs.Validity.{IsAtPlace}
 use Rattle.figure_laws.proofs.Lists.Places.{some_same}
 use Rattle.relate_prep.specs.Cells.{SeenCell, IsOrigin, IsLater, AreLater, WasAsked, AreAreaCells, area_edges}
 use Rattle.relate_prep.specs.Sessions.{AreAskedNear, AreKeptFar}
-use Rattle.relate_prep.specs.Shells.{IsShellNear}
+use Rattle.union_locator.specs.Shells.{IsShellNear}
 
 -- ---- one item of a list changes
 -- it is there

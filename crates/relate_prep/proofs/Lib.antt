@@ -1,9 +1,4 @@
 mod AskingCells
-mod BeyondShells
-mod BoxLists
 mod Comparisons
-mod Items
 mod Knowing
 mod NewSessions
-mod RingBoxes
-mod Scans

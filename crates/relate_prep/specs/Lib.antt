@@ -1,4 +1,3 @@
 pub mod Cells
 pub mod Prepared
 pub mod Sessions
-pub mod Shells

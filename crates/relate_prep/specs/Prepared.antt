@@ -14,7 +14,7 @@ use Rattle.bound_rule.specs.Ends.{SeenEnds, AreEndsOf}
 use Rattle.figure_extent.specs.Kept.{SeenExtents, extent_under}
 use Rattle.ring_sides.specs.Rows.{owned_edges, HasItsHand}
 use Rattle.union_locator.specs.Plains.{segs_of}
-use Rattle.relate_prep.specs.Shells.{AreShellBoxes}
+use Rattle.union_locator.specs.Shells.{AreShellBoxes}
 
 -- A figure, its edges with their owners and hands, its edges alone, its line ends, its envelopes and the boxes of its areas' shells.
 pub record SeenBasis : Type 0 where

@@ -9,7 +9,7 @@ use Rattle.point_set.specs.Shape.{IsWellShaped}
 use Rattle.point_set.specs.Validity.{IsAtPlace, IsValid}
 use Rattle.relate_prep.specs.Cells.{SeenCell, IsCellOver, AreAreaCells, KnowTheSame, WasAsked, names_of, new_cell}
 use Rattle.relate_prep.specs.Prepared.{SeenPrepared}
-use Rattle.relate_prep.specs.Shells.{AreShellBoxes, IsShellNear}
+use Rattle.union_locator.specs.Shells.{AreShellBoxes, IsShellNear}
 
 -- A figure, and what is known of the cell of the index of all its edges and of the cell of each area.
 pub record SeenSession : Type 0 where

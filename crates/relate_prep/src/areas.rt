@@ -6,11 +6,10 @@ ghost use Rattle.union_locator.specs.Areas.{IsInAreaAt};
 ghost use Rattle.union_locator.specs.Nearby.{ArePlacesRound};
 ghost use Rattle.relate_prep.specs.Cells.{AreAreaCells, AreLater};
 ghost use Rattle.relate_prep.specs.Sessions.{AreAskedNear, AreKeptFar};
-ghost use Rattle.relate_prep.specs.Shells.{AreShellBoxes};
+ghost use Rattle.union_locator.specs.Shells.{AreShellBoxes};
 
 use crate::asked::Asked;
 use crate::basis::Basis;
-use crate::shells::BoxList;
 use crate::sources::AreaEdges;
 use area_locator::{AreaIndex, law_areas_of_valid_figures_are_valid, locate_plain};
 use im_matrix::Loc;
@@ -19,7 +18,7 @@ use plane_exact::{Count, NoMemory, Node, PlaceList, Window};
 use point_set::{DimLoc, Rule, Valid};
 use std::alloc::Global;
 use std::marker::Model;
-use union_locator::{AreaLocs, locate_with};
+use union_locator::{AreaLocs, BoxList, locate_with};
 
 /// The areas of a figure, with what a session knows of the cells of their indexes.
 #[derive(Drop)]

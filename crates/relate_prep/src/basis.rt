@@ -1,6 +1,5 @@
 ghost use Rattle.std.specs.Prelude.{◌≡◌, IfOk};
 
-use crate::shells::{BoxList, shells_of};
 use bound_rule::EndTable;
 use figure_extent::Extents;
 use plane_exact::{NoMemory, SegList};
@@ -8,7 +7,7 @@ use point_set::{EdgeRows, Valid};
 use ring_sides::edges_of;
 use std::alloc::Global;
 use std::marker::Model;
-use union_locator::segs_of;
+use union_locator::{BoxList, segs_of, shells_of};
 
 /// A valid figure, and what is made of it at once.
 #[derive(Drop)]

@@ -7,6 +7,7 @@ ghost use Rattle.union_locator.specs.Plains.{segs_of};
 use edge_index::EdgeIndex;
 use plane_exact::{Count, NoMemory, PlaceList, Window};
 use point_set::EdgeRows;
+use union_locator::scan_rows;
 
 /// Where the count of looks stays.
 const MOST_LOOKS: u64 = 1 << 62;
@@ -29,7 +30,7 @@ pub(crate) fn places_in(
 {
     match index {
         Some(index) => query(index, w, out, looks),
-        None => scan(rows, w, out),
+        None => scan_rows(rows, w, out),
     }
 }
 
@@ -41,18 +42,4 @@ fn query(index: &EdgeIndex, w: Window, out: &mut PlaceList, looks: &mut u64) -> 
     let answer = index.query_with(w, out, &mut count);
     *looks = looks.saturating_add(count.ticks()).min(MOST_LOOKS);
     answer
-}
-
-/// Looks at each row.
-fn scan(rows: &EdgeRows, w: Window, out: &mut PlaceList) -> Result<(), NoMemory>
-    requires few { length rows.now ≤ 1048576 }
-    ensures places { OnOk result (ArePlacesIn w (owned_edges rows.now) out.new) }
-{
-    out.clear();
-    for (place, row) in rows.as_slice().iter().enumerate() {
-        if Window::of(row.seg).meets(&w) {
-            out.push(place as u32)?;
-        }
-    }
-    Ok(())
 }

@@ -9,7 +9,6 @@ mod edges;
 mod origin;
 mod prepared;
 mod session;
-mod shells;
 mod sources;
 mod target;
 #[cfg(test)]

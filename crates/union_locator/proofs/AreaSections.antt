@@ -1,6 +1,6 @@
 -- The sections of the edges of areas round a point are all the sections there of the areas alone.
-use Rattle.std.proofs.Common.{◌≡◌, ◌⊎◌, inl, inr, ℕ, ◌+◌, ◌<◌, ◌≤◌, Bool, None, List, [], ◌∷◌, ◌++◌, length, get_or, ap, refl, sym, ◌∙◌, subst, arith}
-use Rattle.std.specs.List.{All, Any, Contains}
+use Rattle.std.proofs.Common.{◌≡◌, ◌⊎◌, inl, inr, ℕ, ◌+◌, ◌<◌, ◌≤◌, Bool, None, List, [], ◌++◌, length, get_or, ap, refl, sym, ◌∙◌, subst, arith}
+use Rattle.std.specs.List.{All, Any}
 use Rattle.std.proofs.lemmas.Bool.{cases_lt}
 use Rattle.std.proofs.lemmas.List.Elements.{All-nil, All-append, All-same, All-weaker, at_from_Contains}
 use Rattle.im_matrix.specs.declared.Which.TheVariants.{A}
@@ -13,7 +13,7 @@ use Rattle.point_set.specs.declared.edge.Owner.TheVariants.{Line, Ring}
 use Rattle.point_set.specs.declared.figure.Figure.{Figure}
 use Rattle.point_set.specs.Edges.{OwnedEdge, HasHand, edges_of_figure, far_end, area_of}
 use Rattle.point_set.specs.Validity.{IsAtPlace, IsOnEdge}
-use Rattle.figure_laws.proofs.Edges.Owners.{HasPlace, IsEdgeOf, IsLineEdge, edge_of_owner, owner_has_edge}
+use Rattle.figure_laws.proofs.Edges.Owners.{HasPlace, IsEdgeOf, edge_of_owner, owner_has_edge}
 use Rattle.figure_laws.proofs.Lists.Places.{some_same, all_at}
 use Rattle.figure_laws.proofs.Lists.Search.{any_left, any_right}
 use Rattle.fan_order.specs.declared.section.Section.{Section}

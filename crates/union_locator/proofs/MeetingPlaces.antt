@@ -4,7 +4,6 @@ use Rattle.std.specs.Prelude.{map}
 use Rattle.std.specs.Option.{option_map}
 use Rattle.std.proofs.lemmas.List.Elements.{All-weaker}
 use Rattle.std.proofs.lemmas.Option.{slice_get-map}
-use Rattle.plane_exact.specs.declared.point.Seg.{Seg}
 use Rattle.plane_exact.specs.declared.window.Window.{Window}
 use Rattle.edge_index.specs.Segments.{ArePlacesIn as AreSegPlacesIn, MeetsAtPlace as SegMeetsAtPlace}
 use Rattle.point_set.specs.declared.edge.Edge.{Edge}

@@ -1,16 +1,13 @@
 -- The edges near a point: what a place names, and that each edge which holds the point has its place.
-use Rattle.std.proofs.Common.{◌≡◌, ℕ, zero, suc, ◌<◌, None, List, [], ◌∷◌, length, get_or, ap, refl, sym, ◌∙◌, subst, arith}
-use Rattle.std.specs.List.{All, Contains}
+use Rattle.std.proofs.Common.{◌≡◌, ℕ, ◌<◌, None, List, length, get_or, ap, refl, sym, ◌∙◌, subst, arith}
+use Rattle.std.specs.List.{Contains}
 use Rattle.std.specs.Int.{int_max, int_min}
 use Rattle.std.proofs.lemmas.List.{length-map}
 use Rattle.std.proofs.lemmas.List.Elements.{All-contains}
 use Rattle.std.proofs.lemmas.Option.{slice_get_within}
-use Rattle.plane_laws.specs.Plane.{Point, IsSamePoint}
+use Rattle.plane_laws.specs.Plane.{Point}
 use Rattle.plane_exact.proofs.Laws.{least_of_ends}
 use Rattle.plane_exact.specs.declared.window.Window.{Window}
-use Rattle.plane_exact.specs.declared.point.Seg.{Seg}
-use Rattle.plane_exact.specs.Windows.{IsLeastWindow}
-use Rattle.plane_exact.specs.Places.{point_of}
 use Rattle.point_set.specs.declared.edge.Edge.{Edge}
 use Rattle.point_set.specs.declared.figure.Figure.{Figure}
 use Rattle.point_set.specs.Edges.{OwnedEdge, MeetsWindow, MeetsAtPlace, edges_of_figure, area_of}
@@ -18,7 +15,7 @@ use Rattle.point_set.specs.Validity.{IsAtPlace, IsOnEdge}
 use Rattle.figure_laws.proofs.Edges.Limits.{IsProper, IsOwnedProper, proper_figure}
 use Rattle.figure_laws.proofs.Edges.Windows.{meets_round}
 use Rattle.figure_laws.proofs.Lists.Places.{some_same, all_at, read_at}
-use Rattle.ring_sides.specs.Rows.{owned_edge, owned_edges}
+use Rattle.ring_sides.specs.Rows.{owned_edge}
 use Rattle.union_locator.proofs.MeetingPlaces.{image_at, source_at}
 use Rattle.union_locator.specs.Nearby.{IsNearby, IsLineEdgeAt, IsAreaEdgeAt}
 

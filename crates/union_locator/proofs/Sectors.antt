@@ -1,5 +1,5 @@
 -- A test of all sectors in order.
-use Rattle.std.proofs.Common.{◌≡◌, ℕ, ◌-◌, ◌<◌, Bool, true, false, List, length, get_or, refl, sym, ◌∙◌, subst, arith}
+use Rattle.std.proofs.Common.{◌≡◌, ℕ, ◌-◌, ◌<◌, Bool, true, false, length, get_or, refl, ◌∙◌, subst, arith}
 use Rattle.std.specs.Prelude.{MatchBool, IsTrue, ◌↔◌}
 use Rattle.std.specs.List.{HoldsAt, AllWithin, range_with_len}
 use Rattle.std.proofs.lemmas.Bool.{false≢true}

@@ -1,20 +1,18 @@
 -- What the single areas say of a point, one area after the other, and what this means for their union.
-use Rattle.std.proofs.Common.{◌≡◌, ◌⊎◌, inl, inr, ℕ, zero, suc, ◌+◌, ◌<◌, ◌≤◌, Bool, true, false, List, [], ◌∷◌, ◌++◌, length, take, get_or, refl, ap, sym, ◌∙◌, subst, arith}
-use Rattle.std.specs.List.{All, Any, list_any}
-use Rattle.std.proofs.lemmas.List.{take_more, take_all, length_push, get_or_append_left}
-use Rattle.std.proofs.lemmas.List.Elements.{All-nil, All-push, All-more, All-weaker, All-same, All-get_or}
-use Rattle.std.proofs.lemmas.List.Folds.{list_any_none, list_any-from_Any}
+use Rattle.std.proofs.Common.{◌≡◌, ℕ, zero, suc, ◌+◌, ◌<◌, ◌≤◌, List, [], ◌∷◌, ◌++◌, length, take, get_or, refl, ap, sym, ◌∙◌, subst, arith}
+use Rattle.std.specs.List.{All, Any}
+use Rattle.std.proofs.lemmas.List.{take_more, take_all}
+use Rattle.std.proofs.lemmas.List.Elements.{All-nil, All-more, All-weaker}
 use Rattle.std.proofs.lemmas.List.Quantifiers.{Any-push}
-use Rattle.std.proofs.lemmas.Option.{slice_get-get_or, slice_get_read, get_or_from_slice_get}
+use Rattle.std.proofs.lemmas.Option.{slice_get-get_or}
 use Rattle.im_matrix.specs.declared.Loc.{Loc}
 use Rattle.im_matrix.specs.declared.Loc.TheVariants.{Interior, Boundary, Exterior}
 use Rattle.plane_laws.specs.Plane.{Point}
 use Rattle.point_set.specs.declared.figure.Area.{Area}
-use Rattle.point_set.specs.declared.figure.Figure.{Figure}
-use Rattle.point_set.specs.Location.{location, is_not_exterior, is_covered, is_covered_by}
+use Rattle.point_set.specs.Location.{location}
 use Rattle.point_set.specs.Validity.{IsAtPlace}
 use Rattle.figure_laws.proofs.Lists.Search.{any_left}
-use Rattle.union_locator.specs.Areas.{IsInAreaAt, IsInAreas}
+use Rattle.union_locator.specs.Areas.{IsInAreas}
 
 -- ---- one area more
 -- what holds of the first k + 1

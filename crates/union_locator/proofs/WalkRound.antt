@@ -1,7 +1,6 @@
 -- Round a point that is on the boundary of areas and inside none: it is interior to their union exactly where every sector is inside one.
-use Rattle.std.proofs.Common.{◌≡◌, ◌⊎◌, inl, inr, ℕ, ◌<◌, ◌≤◌, Bool, true, false, List, length, ap, refl, sym, ◌∙◌, subst, arith}
+use Rattle.std.proofs.Common.{◌≡◌, ℕ, ◌<◌, Bool, true, false, List, length, ap, refl, sym, ◌∙◌, arith}
 use Rattle.std.specs.Prelude.{IsTrue, ◌↔◌}
-use Rattle.std.specs.List.{All, Any}
 use Rattle.std.proofs.lemmas.List.Elements.{All-nil, All-weaker}
 use Rattle.std.proofs.lemmas.List.Folds.{list_any_none, list_any-from_Any}
 use Rattle.std.proofs.lemmas.Option.{slice_get_read}
@@ -17,7 +16,7 @@ use Rattle.point_set.specs.Cover.{IsAdjacent}
 use Rattle.point_set.specs.Location.{location, is_not_exterior, is_covered, IsAreaInterior}
 use Rattle.point_set.specs.Sectors.{sectors_of}
 use Rattle.point_set.specs.Shape.{IsWellShaped, IsLineShaped}
-use Rattle.point_set.specs.Validity.{IsAtPlace, IsValid, Clause, too_few_points, ring_cross, rings_share_edge, hole_outside, holes_overlap, disconnected, elements_share_edge, elements_overlap, Fails, SomeArea, SomeEarlier}
+use Rattle.point_set.specs.Validity.{IsValid, Clause, too_few_points, ring_cross, rings_share_edge, hole_outside, holes_overlap, disconnected, elements_share_edge, elements_overlap, Fails, SomeEarlier}
 use Rattle.figure_laws.proofs.Lists.Places.{all_at}
 use Rattle.fan_order.specs.declared.section.Section.{Section}
 use Rattle.fan_order.specs.Rays.{AreRaysOf}

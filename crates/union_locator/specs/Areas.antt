@@ -1,5 +1,5 @@
 -- What the single areas of a figure say of a point.
-use Rattle.std.specs.Prelude.{◌≡◌, ℕ, [], List, map}
+use Rattle.std.specs.Prelude.{◌≡◌, ℕ, [], List, Option, IfSome, map}
 use Rattle.std.specs.List.{All, Any}
 use Rattle.im_matrix.specs.declared.Loc.{Loc}
 use Rattle.im_matrix.specs.declared.Loc.TheVariants.{Interior, Boundary, Exterior}
@@ -8,8 +8,11 @@ use Rattle.plane_exact.specs.declared.point.Seg.{Seg}
 use Rattle.point_set.specs.declared.figure.Area.{Area}
 use Rattle.point_set.specs.declared.figure.Figure.{Figure}
 use Rattle.point_set.specs.Location.{location}
+use Rattle.plane_exact.specs.declared.window.Window.{Window}
+use Rattle.point_set.specs.Shape.{IsWellShaped}
 use Rattle.point_set.specs.Validity.{IsAtPlace, IsValid}
 use Rattle.area_locator.specs.Indexed.{edges_of_area}
+use Rattle.union_locator.specs.Shells.{AreShellBoxes}
 
 -- Where a point lies in the area at a place.
 abbrev pub IsInAreaAt : Figure → ℕ → Point → Loc → Type 0
@@ -30,3 +33,16 @@ areas_alone f = record { points = []; lines = []; areas = f.areas }
 pub record AreEdgesByArea (f : Figure) (lists : List (List Seg)) : Type 0 where
   pub valid : IsValid f
   pub each : lists ≡ map edges_of_area f.areas
+
+-- A figure, the boxes of its areas' shells, and, once they are made, the edges over which the indexes of its areas are.
+pub record SeenAreas : Type 0 where
+  pub figure : Figure
+  pub shells : List Window
+  pub indexes : Option (List (List Seg))
+
+-- The figure is valid, the boxes are those of its shells, and each index is over the edges of its area.
+pub record AreAreas (seen : SeenAreas) : Type 0 where
+  pub shaped : IsWellShaped seen.figure
+  pub valid : IsValid seen.figure
+  pub shells : AreShellBoxes seen.figure.areas seen.shells
+  pub indexes : IfSome seen.indexes (AreEdgesByArea seen.figure)

@@ -1,5 +1,5 @@
 -- The edges of a figure near a point.
-use Rattle.std.specs.Prelude.{◌≡◌, ℕ, List, Option, None}
+use Rattle.std.specs.Prelude.{◌≡◌, ℕ, List, None}
 use Rattle.std.specs.List.{All}
 use Rattle.plane_laws.specs.Plane.{Point, IsSamePoint}
 use Rattle.plane_exact.specs.Windows.{IsLeastWindow}

@@ -4,11 +4,13 @@ ghost use Rattle.point_set.specs.declared.figure.Figure.{Figure};
 ghost use Rattle.point_set.specs.Shape.{IsWellShaped};
 ghost use Rattle.union_locator.specs.Areas.{AreEdgesByArea, IsInAreaAt, IsInAreas};
 
-use area_locator::{AreaIndex, law_areas_of_valid_figures_are_valid};
+use crate::shells::{BoxList, shells_of};
+use area_locator::{AreaIndex, law_areas_of_valid_figures_are_valid, locate_plain};
 use im_matrix::Loc;
-use plane_exact::{Count, ItemList, NoMemory, Node};
+use plane_exact::{Count, ItemList, NoMemory, Node, Window};
 use point_set::{Figure, Valid};
 use std::alloc::Global;
+use std::marker::Model;
 
 /// A way to locate nodes in the areas of a valid figure, one by one.
 pub trait AreaLocs {
@@ -25,22 +27,94 @@ pub trait AreaLocs {
         ensures figure { figure self.new ≡ figure self.old };
 }
 
-/// The edges of each area of a figure in order, with an index over their heights.
+/// The greatest number of positions of a shell without holes that are looked at one by one, since making an index of its edges would
+/// take longer.
+const FEW_POSITIONS: usize = 32;
+
+/// The areas of a figure, with the boxes of their shells. The indexes over the heights of their edges are made when a node is first
+/// near an area with more than a few positions.
 #[derive(Drop)]
 pub(crate) struct IndexedAreas<'a> {
-    pub(crate) valid: &'a Valid,
-    pub(crate) indexes: &'a ItemList<AreaIndex>,
-    ghost indexed: { AreEdgesByArea valid.now indexes.now },
+    valid: &'a Valid,
+    shells: BoxList,
+    indexes: Option<ItemList<AreaIndex>>,
+    alloc: Global,
+}
+
+impl<'a> Model for IndexedAreas<'a> {
+    ghost use Rattle.union_locator.specs.Areas.{SeenAreas, AreAreas};
+
+    ghost Value = { SeenAreas };
+
+    ghost view = { λ a. record { figure = a.valid.now; shells = a.shells; indexes = a.indexes } };
+
+    ghost invariant = { λ a. AreAreas (record { figure = a.valid.now; shells = a.shells; indexes = a.indexes }) };
 }
 
 impl AreaLocs for IndexedAreas<'_> {
-    ghost figure = { λ a. a.valid.now };
+    ghost figure = { λ a. a.figure };
 
     fn loc(&mut self, area: u32, n: &Node) -> Result<Loc, NoMemory> {
+        let place = area as usize;
+        if Window::round(n).meets(self.shells.at(place)) {
+            self.loc_near(place, n)
+        } else {
+            Ok(Loc::Exterior)
+        }
+    }
+}
+
+impl<'a> IndexedAreas<'a> {
+    ghost use Rattle.std.specs.Prelude.{◌≡◌, ◌<◌, None, length, IfOk, OnOk};
+    ghost use Rattle.plane_exact.specs.NodePoints.{point_at};
+    ghost use Rattle.union_locator.specs.Areas.{IsInAreaAt};
+
+    /// The areas of a figure, in which no node was located.
+    ///
+    /// # Errors
+    /// `NoMemory`.
+    pub(crate) fn new(alloc: Global, v: &'a Valid) -> Result<IndexedAreas<'a>, NoMemory>
+        ensures figure { IfOk result (λ areas. areas.figure ≡ v.now) }
+    {
+        Ok(IndexedAreas {
+            valid: v,
+            shells: shells_of(alloc, v.figure())?,
+            indexes: None,
+            alloc,
+        })
+    }
+
+    /// Makes the indexes where there are none.
+    ///
+    /// # Errors
+    /// `NoMemory`.
+    fn make_indexes(&mut self) -> Result<(), NoMemory>
+        ensures figure { self.new.figure ≡ self.old.figure }
+        ensures made { OnOk result (¬ (self.new.indexes ≡ None)) }
+    {
+        if self.indexes.is_none() {
+            self.indexes = Some(indexes_of(self.alloc, self.valid)?);
+        }
+        Ok(())
+    }
+
+    /// Where a node lies in the area at a place, by the area's index where it has more than a few positions.
+    fn loc_near(&mut self, place: usize, n: &Node) -> Result<Loc, NoMemory>
+        requires place { place < length self.old.figure.areas }
+        ensures figure { self.new.figure ≡ self.old.figure }
+        ensures location { IfOk result (IsInAreaAt self.new.figure place (point_at n.now)) }
+    {
+        let area = self.valid.figure().areas.at(place);
+        if area.holes.len() == 0 && area.shell.len() <= FEW_POSITIONS {
+            return Ok(locate_plain(area, n));
+        }
+        self.make_indexes()?;
         // An index locates in an area that is valid alone.
         law_areas_of_valid_figures_are_valid();
-        let index = self.indexes.at(area as usize);
-        Ok(index.locate(n, &mut Count::new()))
+        match &self.indexes {
+            Some(indexes) => Ok(indexes.at(place).locate(n, &mut Count::new())),
+            None => unreachable!(),
+        }
     }
 }
 

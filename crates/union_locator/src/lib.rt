@@ -7,8 +7,10 @@ mod locate;
 mod nearby;
 mod places;
 mod plain;
+mod shells;
 
 pub use areas::AreaLocs;
 pub use locate::locate_with;
-pub use places::segs_of;
+pub use places::{scan_rows, segs_of};
 pub use plain::Plain;
+pub use shells::{BoxList, shells_of};

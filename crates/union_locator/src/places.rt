@@ -1,4 +1,5 @@
-ghost use Rattle.std.specs.Prelude.{◌≡◌, ◌≤◌, length, IfOk, OnOk};
+ghost use Rattle.std.specs.Prelude.{◌≡◌, ◌≤◌, length, Some, None, IfOk, OnOk};
+ghost use Rattle.edge_index.specs.Index.{SeenIndex};
 ghost use Rattle.point_set.specs.Edges.{ArePlacesIn};
 ghost use Rattle.ring_sides.specs.Rows.{owned_edges};
 ghost use Rattle.union_locator.specs.Plains.{segs_of};
@@ -8,37 +9,82 @@ use plane_exact::{NoMemory, PlaceList, SegList, Window};
 use point_set::EdgeRows;
 use std::alloc::Global;
 
-/// The rows of a figure's edges, with an index that finds those in a window.
+/// The greatest number of rows that are looked at one by one, since making an index of them would take longer.
+const FEW_ROWS: usize = 32;
+
+/// The rows of a figure's edges, with an index that finds those in a window. Where there are more than a few, it is made when a
+/// window is first asked for.
 #[derive(Drop)]
 pub(crate) struct IndexedRows {
     pub(crate) rows: EdgeRows,
-    index: EdgeIndex,
-    ghost indexed: { index.segs ≡ segs_of rows },
+    index: Option<EdgeIndex>,
+    ghost few: { length rows ≤ 1048576 },
+    ghost indexed: { (found : SeenIndex) → index ≡ Some found → found.segs ≡ segs_of rows },
 }
 
 impl IndexedRows {
-    /// Makes the index of rows.
+    /// Rows that no window was asked of.
+    pub(crate) fn new(rows: EdgeRows) -> IndexedRows
+        requires few { length rows ≤ 1048576 }
+        ensures rows { result.rows ≡ rows }
+    {
+        IndexedRows { rows, index: None }
+    }
+
+    /// Makes the index where there is none.
     ///
     /// # Errors
     /// `NoMemory`.
-    pub(crate) fn new(alloc: Global, rows: EdgeRows) -> Result<IndexedRows, NoMemory>
-        requires few { length rows ≤ 1048576 }
-        ensures rows { IfOk result (λ indexed. indexed.rows ≡ rows) }
+    fn make_index(&mut self, alloc: Global) -> Result<(), NoMemory>
+        ensures rows { self.new.rows ≡ self.old.rows }
+        ensures made { OnOk result (¬ (self.new.index ≡ None)) }
     {
-        let segs = segs_of(alloc, &rows)?;
-        let index = EdgeIndex::build(alloc, segs)?;
-        Ok(IndexedRows { rows, index })
+        if self.index.is_none() {
+            let segs = segs_of(alloc, &self.rows)?;
+            self.index = Some(EdgeIndex::build(alloc, segs)?);
+        }
+        Ok(())
     }
 
     /// Makes `out` the places of exactly the rows whose windows meet `w`, ascending.
     ///
     /// # Errors
     /// `NoMemory`, and then `out` holds any list.
-    pub(crate) fn places_in(&self, w: Window, out: &mut PlaceList) -> Result<(), NoMemory>
-        ensures places { OnOk result (ArePlacesIn w (owned_edges self.now.rows) out.new) }
+    pub(crate) fn places_in(
+        &mut self,
+        alloc: Global,
+        w: Window,
+        out: &mut PlaceList,
+    ) -> Result<(), NoMemory>
+        ensures rows { self.new.rows ≡ self.old.rows }
+        ensures places { OnOk result (ArePlacesIn w (owned_edges self.new.rows) out.new) }
     {
-        self.index.query(w, out)
+        if self.rows.len() <= FEW_ROWS {
+            return scan_rows(&self.rows, w, out);
+        }
+        self.make_index(alloc)?;
+        match &self.index {
+            Some(index) => index.query(w, out),
+            None => unreachable!(),
+        }
     }
+}
+
+/// Makes `out` the places of exactly the rows whose windows meet `w`, ascending, by a look at each row.
+///
+/// # Errors
+/// `NoMemory`, and then `out` holds any list.
+pub fn scan_rows(rows: &EdgeRows, w: Window, out: &mut PlaceList) -> Result<(), NoMemory>
+    requires few { length rows.now ≤ 1048576 }
+    ensures places { OnOk result (ArePlacesIn w (owned_edges rows.now) out.new) }
+{
+    out.clear();
+    for (place, row) in rows.as_slice().iter().enumerate() {
+        if Window::of(row.seg).meets(&w) {
+            out.push(place as u32)?;
+        }
+    }
+    Ok(())
 }
 
 /// The segments of rows, in order.

@@ -1,24 +1,23 @@
-use crate::areas::{IndexedAreas, indexes_of};
+use crate::areas::IndexedAreas;
 use crate::locate::locate_with;
 use crate::nearby::Nearby;
 use crate::places::IndexedRows;
-use area_locator::AreaIndex;
 use bound_rule::EndTable;
 use figure_extent::Extents;
 use im_matrix::Loc;
-use plane_exact::{ItemList, NoMemory, Node, PlaceList, Window};
+use plane_exact::{NoMemory, Node, PlaceList, Window};
 use point_set::{DimLoc, Edge, EdgeId, Extent, Rule, Target, Valid};
 use ring_sides::edges_of;
 use std::alloc::Global;
 use std::marker::Model;
 
-/// A valid figure with its edges, its line ends, its envelopes, an index that finds edges in a window, and one of each area,
-/// by which nodes are located in it.
+/// A valid figure with its edges, its line ends and its envelopes. An index that finds edges in a window, and one of each area, are
+/// made when they are first of use.
 #[derive(Drop)]
 pub struct Plain<'a> {
     valid: &'a Valid,
     edges: IndexedRows,
-    indexes: ItemList<AreaIndex>,
+    areas: IndexedAreas<'a>,
     ends: EndTable,
     extents: Extents,
     near: PlaceList,
@@ -30,12 +29,12 @@ impl<'a> Model for Plain<'a> {
 
     ghost Value = { SeenPlain };
 
-    ghost view = { λ p. record { figure = p.valid.now; rows = p.edges.rows; areas = p.indexes; ends = p.ends; extents = p.extents } };
+    ghost view = { λ p. record { figure = p.valid.now; rows = p.edges.rows; areas = p.areas.figure; ends = p.ends; extents = p.extents } };
 
     ghost invariant = { λ p. IsPlain (record {
       figure = p.valid.now;
       rows = p.edges.rows;
-      areas = p.indexes;
+      areas = p.areas.figure;
       ends = p.ends;
       extents = p.extents;
     }) };
@@ -57,8 +56,8 @@ impl<'a> Plain<'a> {
         let extents = Extents::of(v, &ends);
         Ok(Plain {
             valid: v,
-            edges: IndexedRows::new(alloc, edges_of(alloc, v)?)?,
-            indexes: indexes_of(alloc, v)?,
+            edges: IndexedRows::new(edges_of(alloc, v)?),
+            areas: IndexedAreas::new(alloc, v)?,
             ends,
             extents,
             near: PlaceList::new(alloc),
@@ -75,19 +74,16 @@ impl<'a> Plain<'a> {
         ensures adjacent { IfOk result (IsAdjacent self.new.figure (point_at n.now)) }
         ensures same { self.new ≡ self.old }
     {
+        self.edges
+            .places_in(self.alloc, Window::round(n), &mut self.near)?;
         let edges = &self.edges;
-        edges.places_in(Window::round(n), &mut self.near)?;
         let around = Nearby {
             figure: self.valid.figure(),
             rows: &edges.rows,
             places: &self.near,
             node: n,
         };
-        let mut areas = IndexedAreas {
-            valid: self.valid,
-            indexes: &self.indexes,
-        };
-        around.adjacent(self.alloc, &mut areas)
+        around.adjacent(self.alloc, &mut self.areas)
     }
 }
 
@@ -108,26 +104,23 @@ impl Target for Plain<'_> {
     }
 
     fn locate(&mut self, n: &Node, rule: Rule) -> Result<DimLoc, NoMemory> {
+        self.edges
+            .places_in(self.alloc, Window::round(n), &mut self.near)?;
         let edges = &self.edges;
-        edges.places_in(Window::round(n), &mut self.near)?;
-        let mut areas = IndexedAreas {
-            valid: self.valid,
-            indexes: &self.indexes,
-        };
         locate_with(
             self.alloc,
             self.valid,
             &edges.rows,
             &self.near,
             &self.ends,
-            &mut areas,
+            &mut self.areas,
             n,
             rule,
         )
     }
 
     fn edges_in(&mut self, w: Window, out: &mut PlaceList) -> Result<(), NoMemory> {
-        self.edges.places_in(w, out)
+        self.edges.places_in(self.alloc, w, out)
     }
 
     fn extent(&self, rule: Rule) -> Extent {

@@ -9,7 +9,7 @@ use Rattle.point_set.specs.Validity.{IsAtPlace}
 use Rattle.figure_laws.proofs.Lists.Counts.{few_areas}
 use Rattle.relate_prep.specs.Cells.{SeenCell, IsOrigin, IsLater, area_edges}
 use Rattle.relate_prep.proofs.AskingCells.{IsAskedSo, item_at, cells_at, cells_count, name_at, asked_past, asked_here, asked_all}
-use Rattle.relate_prep.proofs.BeyondShells.{near_by_boxes}
+use Rattle.union_locator.proofs.Laws.{near_by_boxes}
 use Rattle.relate_prep.proofs.areas.ask_near.Goals as goal
 use Rattle.relate_prep.proofs.areas.ask_near.Goals.{then-meets+in_ok-ask, else-meets}
 

@@ -2,7 +2,7 @@ use Rattle.std.proofs.Common.{◌<◌, length, get_or, ap, ◌∙◌, arith}
 use Rattle.std.specs.Prelude.{slice_set}
 use Rattle.std.proofs.lemmas.List.{set-get_or}
 use Rattle.relate_prep.proofs.Comparisons.{as_many, same_name, same_below_next, same_each}
-use Rattle.relate_prep.proofs.Items.{item_read}
+use Rattle.union_locator.proofs.Laws.{item_read}
 use Rattle.relate_prep.proofs.session.compare_each.Goals as goal
 
 pub compare-requires : goal.compare-requires

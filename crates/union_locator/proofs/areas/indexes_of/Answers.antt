@@ -1,4 +1,4 @@
-use Rattle.std.proofs.Common.{◌≡◌, ◌<◌, length, ap, ◌∙◌, arith}
+use Rattle.std.proofs.Common.{◌<◌, length, ap, ◌∙◌, arith}
 use Rattle.point_set.specs.declared.figure.Figure.{Figure}
 use Rattle.figure_laws.proofs.Lists.Counts.{few_areas}
 use Rattle.union_locator.proofs.AreaEdges.{area_more}

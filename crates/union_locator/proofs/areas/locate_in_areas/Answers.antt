@@ -1,6 +1,5 @@
-use Rattle.std.proofs.Common.{◌≡◌, ◌<◌, ◌+◌, length, take, ap, sym, ◌∙◌, subst, arith}
+use Rattle.std.proofs.Common.{◌<◌, ◌+◌, length, take, sym, ◌∙◌, subst, arith}
 use Rattle.im_matrix.specs.declared.Loc.{Loc}
-use Rattle.im_matrix.specs.declared.Loc.TheVariants.{Interior}
 use Rattle.plane_exact.specs.NodePoints.{point_at}
 use Rattle.point_set.specs.declared.figure.Figure.{Figure}
 use Rattle.figure_laws.proofs.Lists.Counts.{few_areas}

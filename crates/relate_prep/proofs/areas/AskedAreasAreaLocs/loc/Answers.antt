@@ -5,7 +5,7 @@ use Rattle.plane_exact.specs.NodePoints.{point_at}
 use Rattle.point_set.specs.declared.figure.Figure.{Figure}
 use Rattle.point_set.specs.Validity.{IsAtPlace}
 use Rattle.relate_prep.specs.Sessions.{SeenAreas}
-use Rattle.relate_prep.proofs.BeyondShells.{outside_exterior, apart_is_out}
+use Rattle.union_locator.proofs.Laws.{outside_exterior, apart_is_out}
 use Rattle.relate_prep.proofs.areas.AskedAreasAreaLocs.loc.Goals as goal
 
 pub returns-else-meets-clause-location : goal.returns-else-meets-clause-location

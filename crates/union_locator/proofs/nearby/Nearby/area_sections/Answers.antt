@@ -1,6 +1,5 @@
-use Rattle.std.proofs.Common.{◌≡◌, ◌+◌, List, ℕ, length, get_or, ap, sym, ◌∙◌, subst, arith}
+use Rattle.std.proofs.Common.{◌+◌, List, ℕ, length, get_or, ap, sym, subst, arith}
 use Rattle.plane_exact.specs.NodePoints.{point_at}
-use Rattle.point_set.specs.declared.edge.Edge.{Edge}
 use Rattle.fan_order.specs.declared.section.Section.{Section}
 use Rattle.union_locator.specs.Nearby.{IsAreaEdgeAt}
 use Rattle.union_locator.proofs.NearEdges.{proper_there}

@@ -1,7 +1,7 @@
-use Rattle.std.proofs.Common.{◌≡◌, List, ℕ, length, get_or, true≢false, ap, sym, ◌∙◌, subst, arith}
+use Rattle.std.proofs.Common.{List, ℕ, length, get_or, true≢false, ap, sym, ◌∙◌, subst, arith}
 use Rattle.plane_exact.specs.NodePoints.{point_at}
 use Rattle.union_locator.specs.Nearby.{IsLineEdgeAt}
-use Rattle.union_locator.proofs.OnLines.{IsOffLinesBefore, off_one_more, on_line, off_lines}
+use Rattle.union_locator.proofs.OnLines.{off_one_more, on_line, off_lines}
 use Rattle.union_locator.proofs.nearby.Nearby.is_on_line.Goals as goal
 
 pub returns-then-is_on_line_at : goal.returns-then-is_on_line_at

@@ -5,13 +5,11 @@ use Rattle.edge_index.specs.Segments.{ArePlacesIn}
 use Rattle.union_locator.proofs.MeetingPlaces.{places_of_rows}
 use Rattle.union_locator.proofs.places.IndexedRows.places_in.Goals as goal
 
-pub returns : goal.returns
-returns c =
-    let s = c.args.self.now in
-    record {
-      places =
-          IfOk-weaker c.query.result _ _
-          (λ _ found. places_of_rows c.args.w s.rows c.query.new.out
-          (subst (λ (segs : List Seg). ArePlacesIn c.args.w segs c.query.new.out) s.indexed found))
-          c.query.ensures.places;
-    }
+pub returns-clause-places : goal.returns-clause-places
+returns-clause-places c =
+    let w = c.args.w in
+    let s = c.make_index.new.self in
+    let out = c.query.new.out in
+    let is = s.indexed c.in-Some.index c.in-Some.is in
+    IfOk-weaker c.query.result _ _ (λ _ found. places_of_rows w s.rows out (subst (λ (segs : List Seg). ArePlacesIn w segs out) is found))
+    c.query.ensures.places

@@ -1,6 +1,6 @@
 ghost use Rattle.std.specs.Prelude.{IfOk};
 ghost use Rattle.point_set.specs.Shape.{IsAreaShaped, IsWellShaped};
-ghost use Rattle.relate_prep.specs.Shells.{AreShellBoxes, IsShellBox};
+ghost use Rattle.union_locator.specs.Shells.{AreShellBoxes, IsShellBox};
 
 use figure_extent::of_way;
 use plane_exact::{ItemList, NoMemory, Window};
@@ -8,10 +8,13 @@ use point_set::{Area, Figure};
 use std::alloc::Global;
 
 /// Boxes in order.
-pub(crate) type BoxList = ItemList<Window>;
+pub type BoxList = ItemList<Window>;
 
 /// The box of the shell of each area of a figure.
-pub(crate) fn shells_of(alloc: Global, figure: &Figure) -> Result<BoxList, NoMemory>
+///
+/// # Errors
+/// `NoMemory`.
+pub fn shells_of(alloc: Global, figure: &Figure) -> Result<BoxList, NoMemory>
     requires shaped { IsWellShaped figure.now }
     ensures boxes { IfOk result (AreShellBoxes figure.now.areas) }
 {

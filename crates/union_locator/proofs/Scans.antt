@@ -14,8 +14,8 @@ use Rattle.point_set.specs.Validity.{IsAtPlace, IsOnEdge}
 use Rattle.figure_laws.proofs.Edges.Windows.{meets_by_least}
 use Rattle.figure_laws.proofs.Lists.Places.{some_same}
 use Rattle.ring_sides.specs.Rows.{owned_edge, owned_edges}
-use Rattle.union_locator.proofs.Laws.{image_at}
-use Rattle.relate_prep.proofs.Items.{item_read}
+use Rattle.union_locator.proofs.MeetingPlaces.{image_at}
+use Rattle.union_locator.proofs.Items.{item_read}
 
 -- The places below k of the rows that meet the window.
 pub record ArePlacesBelow (w : Window) (rows : List Edge) (k : ℕ) (out : List ℕ) : Type 0 where

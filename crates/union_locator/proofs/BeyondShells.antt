@@ -24,8 +24,8 @@ use Rattle.side_laws.proofs.Areas.Hands.{AreRingsClean, area_clean, hole_shaped}
 use Rattle.valid_laws.specs.Entering.{IsSimpleRing}
 use Rattle.valid_laws.proofs.Clauses.OverAllPoints.{disc_location}
 use Rattle.valid_laws.proofs.Clauses.Laws.{hole_outside}
-use Rattle.relate_prep.specs.Shells.{IsShellBox, IsShellNear}
-use Rattle.relate_prep.proofs.RingBoxes.{off_edges, none_inside}
+use Rattle.union_locator.specs.Shells.{IsShellBox, IsShellNear}
+use Rattle.union_locator.proofs.RingBoxes.{off_edges, none_inside}
 
 -- off the edges of each of several rings is off all their edges
 off_rings :

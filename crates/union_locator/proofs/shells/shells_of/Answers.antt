@@ -1,9 +1,9 @@
 use Rattle.std.proofs.Common.{◌+◌, List, subst, sym, take}
 use Rattle.plane_exact.specs.declared.window.Window.{Window}
 use Rattle.figure_laws.proofs.Lists.Places.{read_at}
-use Rattle.relate_prep.specs.Shells.{AreShellBoxes}
-use Rattle.relate_prep.proofs.BoxLists.{next_box}
-use Rattle.relate_prep.proofs.shells.shells_of.Goals as goal
+use Rattle.union_locator.specs.Shells.{AreShellBoxes}
+use Rattle.union_locator.proofs.BoxLists.{next_box}
+use Rattle.union_locator.proofs.shells.shells_of.Goals as goal
 
 pub loop-area-preserved : goal.loop-area-preserved
 loop-area-preserved c =

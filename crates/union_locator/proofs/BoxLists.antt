@@ -6,7 +6,7 @@ use Rattle.plane_exact.specs.declared.window.Window.{Window}
 use Rattle.point_set.specs.declared.figure.Area.{Area}
 use Rattle.point_set.specs.Validity.{IsAtPlace}
 use Rattle.figure_laws.proofs.Lists.Places.{some_same}
-use Rattle.relate_prep.specs.Shells.{IsShellBox, AreShellBoxes}
+use Rattle.union_locator.specs.Shells.{IsShellBox, AreShellBoxes}
 
 -- an item is the last of a list, or it stands before
 record IsLast {X : Type 0} (xs : List X) (x z : X) (place : ℕ) : Type 0 where

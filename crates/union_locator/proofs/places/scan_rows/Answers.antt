@@ -1,7 +1,7 @@
 use Rattle.std.proofs.Common.{true≢false, ap, sym, ◌∙◌, subst, length, arith}
-use Rattle.relate_prep.proofs.Scans.{ArePlacesBelow, pushed, passed, all_places}
-use Rattle.relate_prep.proofs.edges.scan.Goals as goal
-use Rattle.relate_prep.proofs.edges.scan.Goals.{then-meets+in_ok-push, else-meets}
+use Rattle.union_locator.proofs.Scans.{ArePlacesBelow, pushed, passed, all_places}
+use Rattle.union_locator.proofs.places.scan_rows.Goals as goal
+use Rattle.union_locator.proofs.places.scan_rows.Goals.{then-meets+in_ok-push, else-meets}
 
 pub loop-place-preserved : goal.loop-place-preserved
 loop-place-preserved c =
