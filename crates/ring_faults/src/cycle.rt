@@ -20,6 +20,9 @@ pub fn has_cycle(alloc: Global, area: &Area) -> Result<bool, NoMemory>
     requires unshared { ¬ RingsShareSegment area.now }
     ensures cycle { IfOk result (λ b. IsTrue b ↔ HasTouchCycle area.now) }
 {
+    if area.holes.len() == 0 {
+        return Ok(false);
+    }
     let edges = edges_by_ring(alloc, area)?;
     let mut links = links_of(alloc, edges)?;
     sort_links(&mut links);

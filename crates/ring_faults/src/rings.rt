@@ -73,5 +73,8 @@ pub fn rings_share(alloc: Global, area: &Area) -> Result<bool, NoMemory>
     requires shaped { IsAreaShaped area.now }
     ensures share { IfOk result (λ b. IsTrue b ↔ RingsShareSegment area.now) }
 {
+    if area.holes.len() == 0 {
+        return Ok(false);
+    }
     some_clash(alloc, edges_by_ring(alloc, area)?, Clash::Sharing)
 }

@@ -1,4 +1,5 @@
 use Rattle.std.proofs.Common.{◌↔◌, ◌+◌, ◌≤◌, IsTrue, List, length, add-one, ap, sym, ◌∙◌, subst}
+use Rattle.std.proofs.lemmas.Bool.{false≢true}
 use Rattle.std.proofs.lemmas.List.Elements.{All-cons}
 use Rattle.std.proofs.lemmas.Result.{IfOk-weaker}
 use Rattle.std.specs.List.{Contains}
@@ -14,6 +15,7 @@ use Rattle.ring_faults.specs.Parts.{AreEdgesSound}
 use Rattle.ring_faults.specs.Touches.{AreLinksOfParts}
 use Rattle.ring_faults.proofs.AreaLinks.{area_links, links_same, rings_below}
 use Rattle.ring_faults.proofs.Cycles.{cycle}
+use Rattle.ring_faults.proofs.LoneShells.{no_cycle}
 use Rattle.ring_faults.proofs.PartEdges.{few_by_ring, sound_rings}
 use Rattle.ring_faults.proofs.PartsShare.{rings_clash}
 use Rattle.ring_faults.proofs.cycle.has_cycle.Goals as goal
@@ -43,8 +45,13 @@ have_cycle-requires-clause-rings c =
     (subst (λ (edges : List PartEdge). AreLinksOfParts edges (λ e. Contains edges e) links) c.in_ok-edges.ensures.edges
     c.in_ok-links.ensures.links) in
     let sorted = links_same area links c.sort_links.new.links.items of c.sort_links.ensures.same in
-    rings_below area c.as_slice.result.now (c.len.result + 1) (ap (λ n. n + 1) c.len.ensures.length ∙ add-one (length area.holes))
+    rings_below area c.as_slice.result.now (c.len-2.result + 1) (ap (λ n. n + 1) c.len-2.ensures.length ∙ add-one (length area.holes))
     (subst (λ (ls : List Link). AreLinksOf area ls) (sym c.as_slice.ensures.value) sorted)
+
+pub returns-then-len-eq0 : goal.returns-then-len-eq0
+returns-then-len-eq0 c = record {
+  cycle = (λ t. absurd (false≢true t), λ cycle. absurd (no_cycle c.args.area.now (sym c.len.ensures.length ∙ c.if-len-eq0.true) cycle));
+}
 
 pub returns : goal.returns
 returns c =
