@@ -1,9 +1,10 @@
 -- Cells of areas that are asked for one by one: each stays the cell of its area, is the same cell later, and those of far areas stay as
 -- they were.
-use Rattle.std.proofs.Common.{◌≡◌, ◌⊎◌, inl, inr, ℕ, zero, suc, ◌+◌, ◌<◌, ◌≤◌, List, [], ◌∷◌, length, set, refl, sym, ◌∙◌, ap, subst, arith}
+use Rattle.std.proofs.Common.{◌≡◌, ◌⊎◌, inl, inr, ℕ, zero, suc, ◌+◌, ◌<◌, ◌≤◌, List, [], ◌∷◌, length, get_or, set, refl, sym, ◌∙◌, ap, subst, arith}
 use Rattle.std.specs.Prelude.{Result, Ok, Err, OnOk, map, slice_get}
 use Rattle.std.specs.Option.{option_map}
-use Rattle.std.proofs.lemmas.Bool.{cases_eq}
+use Rattle.std.proofs.lemmas.Bool.{cases_eq, cases_lt}
+use Rattle.std.proofs.lemmas.Grind.{get_or_default_zero}
 use Rattle.std.proofs.lemmas.List.{length-map, length-set, get_or-set_same}
 use Rattle.std.proofs.lemmas.Option.{get_or_from_slice_get, slice_get_read, slice_get_within, slice_get-map}
 use Rattle.std.proofs.Math.Seq.{map-set_same}
@@ -14,7 +15,7 @@ use Rattle.point_set.specs.Validity.{IsAtPlace}
 use Rattle.figure_laws.proofs.Lists.Places.{some_same}
 use Rattle.relate_prep.specs.Cells.{SeenCell, IsOrigin, IsLater, AreLater, WasAsked, AreAreaCells, area_edges}
 use Rattle.relate_prep.specs.Sessions.{AreAskedNear, AreKeptFar}
-use Rattle.union_locator.specs.Shells.{IsShellNear}
+use Rattle.union_locator.specs.Shells.{AreShellsNear, IsShellNear, IsShellNearAt}
 
 -- ---- one item of a list changes
 -- it is there
@@ -62,6 +63,9 @@ item_at (x ∷ xs) zero below = record { item = x; at = refl }
 item_at (x ∷ xs) (suc k) below = let h = item_at xs k (omega (arith, below)) in record { item = h.item; at = h.at }
 
 -- ---- one cell, later
+later_refl : (c : SeenCell) → IsLater c c
+later_refl c = record { name = refl; known = λ x is. is; origin = λ asked. refl }
+
 later_trans : {a b c : SeenCell} → IsLater a b → IsLater b c → IsLater a c
 later_trans h k = record {
   name = k.name ∙ h.name;
@@ -115,29 +119,28 @@ name_at name f xs cells are k c x is_c is_x =
     ∙ slice_get-map name xs k
     ∙ ap (λ o. option_map name o) is_x)
 
--- ---- the cells of areas up to a place were asked for
-pub record AreAskedTo (areas : List Area) (p : Point) (old new : List SeenCell) (count : ℕ) : Type 0 where
+-- ---- the cells of areas at the first of some places were asked for
+pub record AreAskedTo (areas : List Area) (p : Point) (old new : List SeenCell) (places : List ℕ) (count : ℕ) : Type 0 where
   pub later : AreLater old new
   pub kept : AreKeptFar areas p old new
-  pub asked : (place : ℕ) → place < count → (area : Area) (c : SeenCell) → IsAtPlace areas place area → IsAtPlace new place c
-      → IsShellNear area p → WasAsked c
+  pub asked : (i : ℕ) → i < count → (c : SeenCell) → IsAtPlace new (get_or places i 0) c → WasAsked c
 
 -- and each cell is the one of its area
-pub record IsAskedSo (f : Figure) (p : Point) (names : List ℕ) (old new : List SeenCell) (count : ℕ) : Type 0 where
+pub record IsAskedSo (f : Figure) (p : Point) (names : List ℕ) (old new : List SeenCell) (places : List ℕ) (count : ℕ) : Type 0 where
   pub cells : AreAreaCells f names new
-  pub to : AreAskedTo f.areas p old new count
+  pub to : AreAskedTo f.areas p old new places count
 
--- an area that isn't near is passed by
-pub asked_past :
-    (areas : List Area) (p : Point) (old new : List SeenCell) (k : ℕ) (area : Area) → AreAskedTo areas p old new k
-    → IsAtPlace areas k area → ¬ IsShellNear area p → AreAskedTo areas p old new (k + 1)
-asked_past areas p old new k area to at far = record {
-  later = to.later;
-  kept = to.kept;
-  asked = λ place below other c is is_c near. elim (cases_eq place k) [
-    | inl same ↦ absurd (far (subst (λ z. IsShellNear z p) (some_same (sym is ∙ ap (λ n. slice_get areas n) same ∙ at)) near))
-    | inr differ ↦ to.asked place (omega (arith, below, differ)) other c is is_c near
-  ];
+-- at first none was
+pub asked_none :
+    (f : Figure) (p : Point) (names : List ℕ) (cells : List SeenCell) (places : List ℕ) → AreAreaCells f names cells
+    → IsAskedSo f p names cells cells places 0
+asked_none f p names cells places are = record {
+  cells = are;
+  to = record {
+    later = record { count = refl; each = λ place c d is_c is_d. subst (IsLater c) (some_same (sym is_c ∙ is_d)) (later_refl c) };
+    kept = λ place area is far. refl;
+    asked = λ i below. absurd (omega (arith, below));
+  };
 }
 
 -- the cells of far areas stay where that of a near one changes
@@ -149,29 +152,62 @@ kept_at areas p old new k area d kept at near place other is far = elim (cases_e
   | inr differ ↦ set_other new k place d differ ∙ kept place other is far
 ]
 
--- an area that is near is asked for
+-- the area at one of the places is near
+pub near_at :
+    (areas : List Area) (p : Point) (items places : List ℕ) → items ≡ places → AreShellsNear areas p places → (i : ℕ) → i < length items
+    → IsShellNearAt areas p (get_or items i 0)
+near_at areas p items places same near i below = (subst (AreShellsNear areas p) (sym same) near).near i 0 below
+
+-- and it has a cell and the cell's name
+pub cell_within :
+    (f : Figure) (names : List ℕ) (cells : List SeenCell) → AreAreaCells f names cells → (p : Point) (place : ℕ)
+    → IsShellNearAt f.areas p place → place < length cells
+cell_within f names cells are p place near =
+    let within = slice_get_within f.areas place near.area near.area_is in
+    omega (arith, within, cells_count f names cells are)
+
+pub name_within :
+    {X : Type 0} (name : X → ℕ) (f : Figure) (xs : List X) (cells : List SeenCell) → AreAreaCells f (map name xs) cells → (p : Point)
+    (place : ℕ) → IsShellNearAt f.areas p place → place < length xs
+name_within name f xs cells are p place near =
+    let within = slice_get_within f.areas place near.area near.area_is in
+    let count = are.count in
+    omega (arith, within, count, length-map xs name)
+
+-- the one at the next place is asked for
 pub asked_here :
-    (areas : List Area) (p : Point) (old new : List SeenCell) (k : ℕ) (area : Area) (c d : SeenCell) → AreAskedTo areas p old new k
-    → IsAtPlace areas k area → IsShellNear area p → IsAtPlace new k c → IsLater c d → WasAsked d
-    → AreAskedTo areas p old (set new k d) (k + 1)
-asked_here areas p old new k area c d to at near at_c later asked = record {
+    (areas : List Area) (p : Point) (old new : List SeenCell) (places : List ℕ) (i : ℕ) (c d : SeenCell) → AreAskedTo areas p old new places i
+    → IsShellNearAt areas p (get_or places i 0) → IsAtPlace new (get_or places i 0) c → IsLater c d → WasAsked d
+    → AreAskedTo areas p old (set new (get_or places i 0) d) places (i + 1)
+asked_here areas p old new places i c d to near at_c later asked = record {
   later = later_at old new k c d to.later at_c later;
-  kept = kept_at areas p old new k area d to.kept at near;
-  asked = λ place below other b is is_b near_b. elim (set_cases new k place c d b at_c is_b) [
+  kept = kept_at areas p old new k near.area d to.kept near.area_is near.near;
+  asked = λ j next b is_b. elim (set_cases new k (get_or places j 0) c d b at_c is_b) [
     | inl h ↦ subst WasAsked h.new asked
-    | inr h ↦
-        let differ = h.differ in
-        to.asked place (omega (arith, below, differ)) other b is h.was near_b
+    | inr h ↦ elsewhere j next b h.differ h.was (cases_lt j i)
   ];
 }
+  where
+    k : ℕ
+    k = get_or places i 0
+
+    elsewhere :
+        (j : ℕ) → j < i + 1 → (b : SeenCell) → ¬ (get_or places j 0 ≡ k) → IsAtPlace new (get_or places j 0) b → (j < i) ⊎ (i ≤ j)
+        → WasAsked b
+    elsewhere j next b differ was (inl before) = to.asked j before b was
+    elsewhere j next b differ was (inr past) =
+        let same : j ≡ i = omega (arith, next, past) in
+        absurd (differ (ap (λ n. get_or places n 0) same))
 
 -- with all places passed, all near areas were asked for
 pub asked_all :
-    (areas : List Area) (p : Point) (old new : List SeenCell) (count : ℕ) → AreAskedTo areas p old new count → length areas ≤ count
-    → AreAskedNear areas p new
-asked_all areas p old new count to all place area c is is_c near =
-    let within = slice_get_within areas place area is in
-    to.asked place (omega (arith, within, all)) area c is is_c near
+    (areas : List Area) (p : Point) (old new : List SeenCell) (places : List ℕ) (count : ℕ) → AreAskedTo areas p old new places count
+    → length places ≤ count → AreShellsNear areas p places → AreAskedNear areas p new
+asked_all areas p old new places count to all near place area c is is_c is_near =
+    let there = near.whole place (record { area = area; area_is = is; near = is_near }) in
+    let below = there.1 in
+    let same : place ≡ get_or places there.0 0 = sym there.2 ∙ get_or_default_zero places there.0 place below in
+    to.asked there.0 (omega (arith, below, all)) c (subst (λ n. IsAtPlace new n c) same is_c)
 
 -- what holds holds where an answer is Ok
 pub on_ok : {T E P : Type 0} (r : Result T E) → P → OnOk r P

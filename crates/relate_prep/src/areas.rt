@@ -18,14 +18,14 @@ use plane_exact::{Count, NoMemory, Node, PlaceList, Window};
 use point_set::{DimLoc, Rule, Valid};
 use std::alloc::Global;
 use std::marker::Model;
-use union_locator::{AreaLocs, BoxList, locate_with};
+use union_locator::{AreaLocs, IndexedShells, locate_with};
 
 /// The areas of a figure, with what a session knows of the cells of their indexes.
 #[derive(Drop)]
 pub(crate) struct AskedAreas<'s, 'a> {
     pub(crate) valid: &'s Valid,
     /// The box of the shell of each area.
-    pub(crate) shells: &'s BoxList,
+    pub(crate) shells: &'s IndexedShells,
     pub(crate) asked: &'s [Asked<'a, AreaIndex>],
 }
 
@@ -50,6 +50,10 @@ impl AreaLocs for AskedAreas<'_, '_> {
             Ok(Loc::Exterior)
         }
     }
+
+    fn near(&mut self, n: &Node, out: &mut PlaceList) -> Result<(), NoMemory> {
+        self.shells.near(n, out)
+    }
 }
 
 impl AskedAreas<'_, '_> {
@@ -68,16 +72,17 @@ impl AskedAreas<'_, '_> {
     }
 }
 
-/// Asks the cell of each area whose shell's box meets the least box round a node.
+/// Asks the cell of each area whose shell's box meets the least box round a node, and makes `near` the places of these areas.
 ///
 /// # Errors
-/// `NoMemory`, and then what was asked before is known.
+/// `NoMemory`, and then what was asked before is known, and `near` holds any list.
 pub(crate) fn ask_near<'a>(
     alloc: Global,
     valid: &Valid,
-    shells: &BoxList,
+    shells: &IndexedShells,
     cells: &'a [OnceBox<AreaIndex>],
     n: &Node,
+    near: &mut PlaceList,
     asked: &mut [Asked<'a, AreaIndex>],
 ) -> Result<(), NoMemory>
     requires shells { AreShellBoxes valid.now.areas shells.now }
@@ -87,16 +92,15 @@ pub(crate) fn ask_near<'a>(
     ensures asked { OnOk result (AreAskedNear valid.now.areas (point_at n.now) asked.new) }
     ensures kept { AreKeptFar valid.now.areas (point_at n.now) asked.old asked.new }
 {
-    let window = Window::round(n);
-    for place in 0..valid.figure().areas.len() {
-        if window.meets(shells.at(place)) {
-            let source = AreaEdges {
-                alloc,
-                valid,
-                area: place as u32,
-            };
-            asked[place].ask(alloc, &cells[place], &source)?;
-        }
+    shells.near(n, near)?;
+    for place in near.as_slice() {
+        let source = AreaEdges {
+            alloc,
+            valid,
+            area: *place,
+        };
+        let area = *place as usize;
+        asked[area].ask(alloc, &cells[area], &source)?;
     }
     Ok(())
 }

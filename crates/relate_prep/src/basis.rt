@@ -7,7 +7,7 @@ use point_set::{EdgeRows, Valid};
 use ring_sides::edges_of;
 use std::alloc::Global;
 use std::marker::Model;
-use union_locator::{BoxList, segs_of, shells_of};
+use union_locator::{IndexedShells, segs_of};
 
 /// A valid figure, and what is made of it at once.
 #[derive(Drop)]
@@ -20,8 +20,8 @@ pub(crate) struct Basis {
     /// The ends of the lines, and the spots.
     pub(crate) ends: EndTable,
     pub(crate) extents: Extents,
-    /// The box of the shell of each area.
-    pub(crate) shells: BoxList,
+    /// The box of the shell of each area, with an index where they are more than a few.
+    pub(crate) shells: IndexedShells,
 }
 
 impl Model for Basis {
@@ -60,7 +60,8 @@ impl Basis {
         let segs = segs_of(alloc, &rows)?;
         let ends = EndTable::build(alloc, &valid)?;
         let extents = Extents::of(&valid, &ends);
-        let shells = shells_of(alloc, valid.figure())?;
+        let mut shells = IndexedShells::of(alloc, valid.figure())?;
+        shells.make_index(alloc)?;
         Ok(Basis {
             valid,
             rows,

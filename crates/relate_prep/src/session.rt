@@ -23,6 +23,7 @@ pub struct Session<'a> {
     pub(crate) edge: Asked<'a, EdgeIndex>,
     pub(crate) areas: Vec<Asked<'a, AreaIndex>>,
     pub(crate) near: PlaceList,
+    pub(crate) near_areas: PlaceList,
     pub(crate) looks: u64,
     pub(crate) alloc: Global,
 }
@@ -66,6 +67,7 @@ impl<'a> Session<'a> {
             edge: Asked::nothing(edge_cell),
             areas: nothing_of(alloc, area_cells)?,
             near: PlaceList::new(alloc),
+            near_areas: PlaceList::new(alloc),
             looks: 0,
             alloc,
         })

@@ -57,6 +57,7 @@ impl Target for Session<'_> {
             &basis.shells,
             self.area_cells,
             n,
+            &mut self.near_areas,
             self.areas.as_mut_slice(),
         )?;
         locate_asked(

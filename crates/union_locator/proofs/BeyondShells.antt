@@ -94,7 +94,7 @@ module _ (f : Figure) (shaped : IsWellShaped f) (valid : IsValid f) (place : ℕ
 
 -- ---- near shells
 -- a box that is within another holds no more than it
-within_holds : {inner outer : Window} → IsWithin inner outer → (p : Point) → IsInWindow inner p → IsInWindow outer p
+pub within_holds : {inner outer : Window} → IsWithin inner outer → (p : Point) → IsInWindow inner p → IsInWindow outer p
 within_holds h p k =
     let heavy : pos 0 ≤ℤ p.w = <ℤ_weaken p.heavy in
     record {

@@ -2,3 +2,4 @@
 pub use Rattle.union_locator.proofs.BeyondShells.{apart_is_out, near_by_boxes, outside_exterior}
 pub use Rattle.union_locator.proofs.Items.{item_read}
 pub use Rattle.union_locator.proofs.MeetingPlaces.{image_at, places_of_rows}
+pub use Rattle.union_locator.proofs.NearShells.{near_areas}

@@ -5,7 +5,9 @@ mod BoxLists
 mod Items
 pub mod Laws
 mod MeetingPlaces
+mod NearAreas
 mod NearEdges
+mod NearShells
 mod OnLines
 mod RingBoxes
 mod Scans

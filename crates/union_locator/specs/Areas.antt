@@ -1,6 +1,7 @@
 -- What the single areas of a figure say of a point.
-use Rattle.std.specs.Prelude.{◌≡◌, ℕ, [], List, Option, IfSome, map}
+use Rattle.std.specs.Prelude.{◌≡◌, ℕ, ◌<◌, [], List, Option, IfSome, length, map, Contains}
 use Rattle.std.specs.List.{All, Any}
+use Rattle.std.specs.List.Sorted.{IsStrictlyIncreasing}
 use Rattle.im_matrix.specs.declared.Loc.{Loc}
 use Rattle.im_matrix.specs.declared.Loc.TheVariants.{Interior, Boundary, Exterior}
 use Rattle.plane_laws.specs.Plane.{Point}
@@ -24,6 +25,12 @@ IsInAreas areas p Interior = Any (λ area. location area p ≡ Interior) areas
 IsInAreas areas p Boundary =
     All (λ area. ¬ (location area p ≡ Interior)) areas × Any (λ area. location area p ≡ Boundary) areas
 IsInAreas areas p Exterior = All (λ area. location area p ≡ Exterior) areas
+
+-- Places of areas, ascending; a point is outside of every area at another place.
+pub record AreNearAreas (areas : List Area) (p : Point) (places : List ℕ) : Type 0 where
+  pub ascending : IsStrictlyIncreasing places
+  pub within : All (λ place. place < length areas) places
+  pub far : (place : ℕ) (area : Area) → IsAtPlace areas place area → ¬ Contains places place → location area p ≡ Exterior
 
 -- The areas of a figure without its lines and points.
 abbrev pub areas_alone : Figure → Figure

@@ -1,13 +1,13 @@
-ghost use Rattle.std.specs.Prelude.{◌≡◌, ◌<◌, length, IfOk};
+ghost use Rattle.std.specs.Prelude.{◌≡◌, ◌<◌, length, IfOk, OnOk};
 ghost use Rattle.plane_exact.specs.NodePoints.{point_at};
 ghost use Rattle.point_set.specs.declared.figure.Figure.{Figure};
 ghost use Rattle.point_set.specs.Shape.{IsWellShaped};
-ghost use Rattle.union_locator.specs.Areas.{AreEdgesByArea, IsInAreaAt, IsInAreas};
+ghost use Rattle.union_locator.specs.Areas.{AreEdgesByArea, AreNearAreas, IsInAreaAt, IsInAreas};
 
-use crate::shells::{BoxList, shells_of};
+use crate::shells::{FEW_AREAS, IndexedShells};
 use area_locator::{AreaIndex, law_areas_of_valid_figures_are_valid, locate_plain};
 use im_matrix::Loc;
-use plane_exact::{Count, ItemList, NoMemory, Node, Window};
+use plane_exact::{Count, ItemList, NoMemory, Node, PlaceList, Window};
 use point_set::{Figure, Valid};
 use std::alloc::Global;
 use std::marker::Model;
@@ -25,6 +25,14 @@ pub trait AreaLocs {
         requires place { area < length (figure self.old).areas }
         ensures location { IfOk result (IsInAreaAt (figure self.new) area (point_at n.now)) }
         ensures figure { figure self.new ≡ figure self.old };
+
+    /// Makes `out` places of areas, ascending, such that a node is outside of every area at another place.
+    ///
+    /// # Errors
+    /// `NoMemory`, and then `out` holds any list.
+    fn near(&mut self, n: &Node, out: &mut PlaceList) -> Result<(), NoMemory>
+        ensures near { OnOk result (AreNearAreas (figure self.new).areas (point_at n.now) out.new) }
+        ensures figure { figure self.new ≡ figure self.old };
 }
 
 /// The greatest number of positions of a shell without holes that are looked at one by one, since making an index of its edges would
@@ -36,7 +44,7 @@ const FEW_POSITIONS: usize = 32;
 #[derive(Drop)]
 pub(crate) struct IndexedAreas<'a> {
     valid: &'a Valid,
-    shells: BoxList,
+    shells: IndexedShells,
     indexes: Option<ItemList<AreaIndex>>,
     alloc: Global,
 }
@@ -62,6 +70,11 @@ impl AreaLocs for IndexedAreas<'_> {
             Ok(Loc::Exterior)
         }
     }
+
+    fn near(&mut self, n: &Node, out: &mut PlaceList) -> Result<(), NoMemory> {
+        self.shells.make_index(self.alloc)?;
+        self.shells.near(n, out)
+    }
 }
 
 impl<'a> IndexedAreas<'a> {
@@ -78,7 +91,7 @@ impl<'a> IndexedAreas<'a> {
     {
         Ok(IndexedAreas {
             valid: v,
-            shells: shells_of(alloc, v.figure())?,
+            shells: IndexedShells::of(alloc, v.figure())?,
             indexes: None,
             alloc,
         })
@@ -134,12 +147,28 @@ pub(crate) fn indexes_of(alloc: Global, v: &Valid) -> Result<ItemList<AreaIndex>
 }
 
 /// What the single areas of a figure say of a node: Interior at the first that has it inside, else Boundary where one of
-/// them has it on its boundary, else Exterior.
+/// them has it on its boundary, else Exterior. Where the areas are more than a few only those near the node are asked.
 pub(crate) fn locate_in_areas<L: AreaLocs>(
+    alloc: Global,
     figure: &Figure,
     areas: &mut L,
     n: &Node,
 ) -> Result<Loc, NoMemory>
+    requires shaped { IsWellShaped figure.now }
+    requires figure { L.figure areas.old ≡ figure.now }
+    ensures location { IfOk result (IsInAreas figure.now.areas (point_at n.now)) }
+    ensures figure { L.figure areas.new ≡ L.figure areas.old }
+{
+    if figure.areas.len() <= FEW_AREAS {
+        return locate_in_all(figure, areas, n);
+    }
+    let mut places = PlaceList::new(alloc);
+    areas.near(n, &mut places)?;
+    locate_in_near(areas, &places, n)
+}
+
+/// What all areas of a figure say of a node, one after the other.
+fn locate_in_all<L: AreaLocs>(figure: &Figure, areas: &mut L, n: &Node) -> Result<Loc, NoMemory>
     requires shaped { IsWellShaped figure.now }
     requires figure { L.figure areas.old ≡ figure.now }
     ensures location { IfOk result (IsInAreas figure.now.areas (point_at n.now)) }
@@ -154,4 +183,21 @@ pub(crate) fn locate_in_areas<L: AreaLocs>(
         }
     }
     Ok(loc)
+}
+
+/// What the areas at some places say of a node that is outside of all others, one after the other.
+fn locate_in_near<L: AreaLocs>(areas: &mut L, places: &PlaceList, n: &Node) -> Result<Loc, NoMemory>
+    requires near { AreNearAreas (L.figure areas.old).areas (point_at n.now) places.now }
+    ensures location { IfOk result (IsInAreas (L.figure areas.old).areas (point_at n.now)) }
+    ensures figure { L.figure areas.new ≡ L.figure areas.old }
+{
+    let mut found = Loc::Exterior;
+    for place in places.as_slice() {
+        match areas.loc(*place, n)? {
+            Loc::Interior => return Ok(Loc::Interior),
+            Loc::Boundary => found = Loc::Boundary,
+            Loc::Exterior => {}
+        }
+    }
+    Ok(found)
 }

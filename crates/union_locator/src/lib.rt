@@ -13,4 +13,4 @@ pub use areas::AreaLocs;
 pub use locate::locate_with;
 pub use places::{scan_rows, segs_of};
 pub use plain::Plain;
-pub use shells::{BoxList, shells_of};
+pub use shells::IndexedShells;

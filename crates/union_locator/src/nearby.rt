@@ -43,7 +43,7 @@ impl Nearby<'_> {
         ensures adjacent { IfOk result (IsAdjacent self.now.figure.now (point_at self.now.node.now)) }
         ensures figure { L.figure areas.new ≡ L.figure areas.old }
     {
-        match locate_in_areas(self.figure, areas, self.node)? {
+        match locate_in_areas(alloc, self.figure, areas, self.node)? {
             Loc::Boundary => self.walk_round(alloc),
             apart => Ok(apart),
         }

@@ -1,100 +1,101 @@
-use Rattle.std.proofs.Common.{◌+◌, ◌<◌, ◌∙◌, List, ap, length, map, refl, subst, sym, arith}
-use Rattle.std.proofs.lemmas.Bool.{true≢false}
-use Rattle.std.proofs.lemmas.List.{length-map}
+use Rattle.std.proofs.Common.{◌∙◌, ap, get_or, length, map, refl, subst, sym}
 use Rattle.std.proofs.lemmas.Option.{slice_get_read}
 use Rattle.once_cell.specs.Once.{cell_name}
 use Rattle.plane_exact.specs.NodePoints.{point_at}
-use Rattle.point_set.specs.declared.figure.Figure.{Figure}
 use Rattle.point_set.specs.Validity.{IsAtPlace}
-use Rattle.figure_laws.proofs.Lists.Counts.{few_areas}
 use Rattle.relate_prep.specs.Cells.{SeenCell, IsOrigin, IsLater, area_edges}
-use Rattle.relate_prep.proofs.AskingCells.{IsAskedSo, item_at, cells_at, cells_count, name_at, asked_past, asked_here, asked_all}
-use Rattle.union_locator.proofs.Laws.{near_by_boxes}
+use Rattle.union_locator.specs.Shells.{AreShellsNear}
+use Rattle.relate_prep.proofs.AskingCells.{asked_none, asked_here, asked_all, cell_within, cells_at, name_at, name_within, near_at}
 use Rattle.relate_prep.proofs.areas.ask_near.Goals as goal
-use Rattle.relate_prep.proofs.areas.ask_near.Goals.{then-meets+in_ok-ask, else-meets}
 
-pub overflow_cast-source : goal.overflow_cast-source
-overflow_cast-source c =
-    let count = c.len-place-end.ensures.length ∙ ap (λ (f : Figure). length f.areas) c.figure.ensures.same in
-    omega (arith, count, few_areas c.args.valid.now c.figure.ensures.shaped, c.loop-place-test.true)
+pub loop-place-init : goal.loop-place-init
+loop-place-init c =
+    asked_none c.args.valid.now (point_at c.args.n.now) (map cell_name c.args.cells.now) c.args.asked.now c.as_slice-place-items.result.now
+    c.requires.cells
+
+pub bounds-asked-area : goal.bounds-asked-area
+bounds-asked-area c =
+    let f = c.args.valid.now in
+    let p = point_at c.args.n.now in
+    let items = c.as_slice-place-items.result.now in
+    let i = c.loop-place.place-index in
+    let found = c.in_ok-near.ensures.near f.areas c.requires.shells in
+    let near = near_at f.areas p items c.near.new.out c.as_slice-place-items.ensures.items found i c.loop-place-test.true in
+    cell_within f (map cell_name c.args.cells.now) c.loop-place.asked c.loop-place.invariant.cells p (get_or items i 0) near
+
+pub bounds-cells-area : goal.bounds-cells-area
+bounds-cells-area c =
+    let f = c.args.valid.now in
+    let p = point_at c.args.n.now in
+    let items = c.as_slice-place-items.result.now in
+    let i = c.loop-place.place-index in
+    let found = c.in_ok-near.ensures.near f.areas c.requires.shells in
+    let near = near_at f.areas p items c.near.new.out c.as_slice-place-items.ensures.items found i c.loop-place-test.true in
+    name_within cell_name f c.args.cells.now c.args.asked.now c.requires.cells p (get_or items i 0) near
 
 pub ask-requires-clause-cell : goal.ask-requires-clause-cell
 ask-requires-clause-cell c =
     let f = c.args.valid.now in
-    let k = c.loop-place.place in
-    let names = map cell_name c.args.cells.now in
+    let p = point_at c.args.n.now in
+    let items = c.as_slice-place-items.result.now in
+    let i = c.loop-place.place-index in
+    let k = get_or items i 0 in
     let asked = c.loop-place.asked in
-    let cells = c.loop-place.invariant.cells in
-    let cell = c.index-asked-place.result in
-    let x = c.index-cells-place.result in
-    let end = c.len-place-end.ensures.length ∙ ap (λ (z : Figure). length z.areas) c.figure.ensures.same in
-    let below : k < length f.areas = omega (arith, end, c.loop-place-test.true) in
-    let count = cells_count f names asked cells in
-    let same = length-map c.args.cells.now cell_name in
-    let all = cells.count in
-    let at_c : IsAtPlace asked k cell = slice_get_read asked (length asked) k cell refl (omega (arith, count, below)) c.index-asked-place.is in
-    let at_x : IsAtPlace c.args.cells.now k x =
-    slice_get_read c.args.cells.now (length c.args.cells.now) k x refl (omega (arith, same, all, below)) c.index-cells-place.is in
-    ap (λ (z : SeenCell). z.name) (sym c.index-asked-place.is) ∙ name_at cell_name f c.args.cells.now asked cells k cell x at_c at_x
+    let cells = c.args.cells.now in
+    let are = c.loop-place.invariant.cells in
+    let cell = c.index-asked-area.result in
+    let x = c.index-cells-area.result in
+    let found = c.in_ok-near.ensures.near f.areas c.requires.shells in
+    let near = near_at f.areas p items c.near.new.out c.as_slice-place-items.ensures.items found i c.loop-place-test.true in
+    let at_c : IsAtPlace asked k cell =
+    slice_get_read asked (length asked) k cell refl (cell_within f (map cell_name cells) asked are p k near) c.index-asked-area.is in
+    let at_x : IsAtPlace cells k x =
+    slice_get_read cells (length cells) k x refl (name_within cell_name f cells asked are p k near) c.index-cells-area.is in
+    ap (λ (z : SeenCell). z.name) (sym c.index-asked-area.is) ∙ name_at cell_name f cells asked are k cell x at_c at_x
 
 pub ask-requires-clause-origin : goal.ask-requires-clause-origin
 ask-requires-clause-origin c =
     let f = c.args.valid.now in
-    let k = c.loop-place.place in
+    let p = point_at c.args.n.now in
+    let items = c.as_slice-place-items.result.now in
+    let i = c.loop-place.place-index in
+    let k = get_or items i 0 in
     let asked = c.loop-place.asked in
-    let cells = c.loop-place.invariant.cells in
-    let cell = c.index-asked-place.result in
-    let end = c.len-place-end.ensures.length ∙ ap (λ (z : Figure). length z.areas) c.figure.ensures.same in
-    let below : k < length f.areas = omega (arith, end, c.loop-place-test.true) in
-    let count = cells_count f (map cell_name c.args.cells.now) asked cells in
-    let at_c : IsAtPlace asked k cell = slice_get_read asked (length asked) k cell refl (omega (arith, count, below)) c.index-asked-place.is in
-    subst (λ (z : SeenCell). IsOrigin (area_edges f k) z.known z.origin) c.index-asked-place.is (cells.origins k cell at_c)
+    let are = c.loop-place.invariant.cells in
+    let cell = c.index-asked-area.result in
+    let found = c.in_ok-near.ensures.near f.areas c.requires.shells in
+    let near = near_at f.areas p items c.near.new.out c.as_slice-place-items.ensures.items found i c.loop-place-test.true in
+    let below = cell_within f (map cell_name c.args.cells.now) asked are p k near in
+    let at_c : IsAtPlace asked k cell = slice_get_read asked (length asked) k cell refl below c.index-asked-area.is in
+    subst (λ (z : SeenCell). IsOrigin (area_edges f k) z.known z.origin) c.index-asked-area.is (are.origins k cell at_c)
 
 pub loop-place-preserved : goal.loop-place-preserved
 loop-place-preserved c =
     let f = c.args.valid.now in
-    let k = c.loop-place.place in
     let p = point_at c.args.n.now in
+    let items = c.as_slice-place-items.result.now in
+    let i = c.loop-place.place-index in
+    let k = get_or items i 0 in
     let names = map cell_name c.args.cells.now in
-    let shells = c.args.shells.now in
-    let box = c.at.result.now in
     let asked = c.loop-place.asked in
     let invariant = c.loop-place.invariant in
-    let end = c.len-place-end.ensures.length ∙ ap (λ (z : Figure). length z.areas) c.figure.ensures.same in
-    let below : k < length f.areas = omega (arith, end, c.loop-place-test.true) in
-    let here = item_at f.areas k below in
-    let boxes = c.requires.shells.count in
-    let at_box : IsAtPlace shells k box = slice_get_read shells (length shells) k box refl (omega (arith, boxes, below)) c.at.ensures.item in
-    let near =
-    near_by_boxes here.item p c.round-window.result box c.round-window.ensures.least (c.requires.shells.each k here.item box here.at at_box) in
-    let count = cells_count f names asked invariant.cells in
-    elim c.if-meets.branch [
-      | then-meets+in_ok-ask t ↦
-          let cell = t.index-asked-place.result in
-          let new = t.ask.new.self in
-          let at_c : IsAtPlace asked k cell =
-          slice_get_read asked (length asked) k cell refl (omega (arith, count, below)) t.index-asked-place.is in
-          let later : IsLater cell new = subst (λ (z : SeenCell). IsLater z new) (sym t.index-asked-place.is) t.in_ok-ask.ensures.later in
-          subst (λ (z : List SeenCell). IsAskedSo f p names c.args.asked.now z (k + 1)) (sym t.asked-is)
-          (record {
-            cells = cells_at f names asked k cell new invariant.cells at_c later.name t.in_ok-ask.ensures.origin;
-            to =
-                asked_here f.areas p c.args.asked.now asked k here.item cell new invariant.to here.at (near.1 (c.meets.ensures.common.0 t.if-meets.true))
-                at_c later t.in_ok-ask.ensures.asked;
-          })
-      | else-meets t ↦
-          subst (λ (z : List SeenCell). IsAskedSo f p names c.args.asked.now z (k + 1)) (sym t.asked-is)
-          (record {
-            cells = invariant.cells;
-            to =
-                asked_past f.areas p c.args.asked.now asked k here.item invariant.to here.at
-                (λ is. true≢false (sym (c.meets.ensures.common.1 (near.0 is)) ∙ t.if-meets.false));
-          })
-    ]
+    let cell = c.index-asked-area.result in
+    let new = c.ask.new.self in
+    let found = c.in_ok-near.ensures.near f.areas c.requires.shells in
+    let near = near_at f.areas p items c.near.new.out c.as_slice-place-items.ensures.items found i c.loop-place-test.true in
+    let below = cell_within f names asked invariant.cells p k near in
+    let at_c : IsAtPlace asked k cell = slice_get_read asked (length asked) k cell refl below c.index-asked-area.is in
+    let later : IsLater cell new = subst (λ (z : SeenCell). IsLater z new) (sym c.index-asked-area.is) c.in_ok-ask.ensures.later in
+    record {
+      cells = cells_at f names asked k cell new invariant.cells at_c later.name c.in_ok-ask.ensures.origin;
+      to = asked_here f.areas p c.args.asked.now asked items i cell new invariant.to near at_c later c.in_ok-ask.ensures.asked;
+    }
 
 pub returns-clause-asked : goal.returns-clause-asked
 returns-clause-asked c =
     let f = c.args.valid.now in
-    let end = c.len-place-end.ensures.length ∙ ap (λ (z : Figure). length z.areas) c.figure.ensures.same in
-    asked_all f.areas (point_at c.args.n.now) c.args.asked.now c.loop-place.asked c.loop-place.place c.loop-place.invariant.to
-    (omega (arith, end, c.loop-place-test.false))
+    let p = point_at c.args.n.now in
+    let items = c.as_slice-place-items.result.now in
+    let found = c.in_ok-near.ensures.near f.areas c.requires.shells in
+    asked_all f.areas p c.args.asked.now c.loop-place.asked items c.loop-place.place-index c.loop-place.invariant.to c.loop-place-test.false
+    (subst (AreShellsNear f.areas p) (sym c.as_slice-place-items.ensures.items) found)

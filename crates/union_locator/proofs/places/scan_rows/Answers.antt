@@ -1,5 +1,5 @@
 use Rattle.std.proofs.Common.{true≢false, ap, sym, ◌∙◌, subst, length, arith}
-use Rattle.union_locator.proofs.Scans.{ArePlacesBelow, pushed, passed, all_places}
+use Rattle.union_locator.proofs.Scans.{AreRowsBelow, pushed, passed, all_places}
 use Rattle.union_locator.proofs.places.scan_rows.Goals as goal
 use Rattle.union_locator.proofs.places.scan_rows.Goals.{then-meets+in_ok-push, else-meets}
 
@@ -12,11 +12,11 @@ loop-place-preserved c =
     let same = c.as_slice-row-items.ensures.items in
     elim c.if-meets.branch [
       | then-meets+in_ok-push t ↦
-          subst (ArePlacesBelow w rows _) (sym t.out-is)
+          subst (AreRowsBelow w rows _) (sym t.out-is)
           (pushed w items rows k _ c.loop-place.out t.push.new.self same c.loop-place-test.true c.of.ensures.least (c.meets.ensures.common.0 t.if-meets.true)
           c.loop-place.invariant t.in_ok-push.ensures.ok)
       | else-meets t ↦
-          subst (ArePlacesBelow w rows _) (sym t.out-is)
+          subst (AreRowsBelow w rows _) (sym t.out-is)
           (passed w items rows k _ c.loop-place.out same c.loop-place-test.true c.of.ensures.least
           (λ h. true≢false (sym (c.meets.ensures.common.1 h) ∙ t.if-meets.false)) c.loop-place.invariant)
     ]

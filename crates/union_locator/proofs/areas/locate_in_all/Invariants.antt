@@ -3,7 +3,7 @@ use Rattle.std.proofs.Common.{◌≡◌, take}
 use Rattle.im_matrix.specs.declared.Loc.TheVariants.{Interior}
 use Rattle.plane_exact.specs.NodePoints.{point_at}
 use Rattle.union_locator.specs.Areas.{IsInAreas}
-use Rattle.union_locator.proofs.areas.locate_in_areas.Given as goal
+use Rattle.union_locator.proofs.areas.locate_in_all.Given as goal
 
 abbrev pub invariant-loop-place : goal.invariant-loop-place
 invariant-loop-place g l = record {

@@ -5,8 +5,8 @@ use Rattle.point_set.specs.declared.figure.Figure.{Figure}
 use Rattle.figure_laws.proofs.Lists.Counts.{few_areas}
 use Rattle.union_locator.specs.Areas.{IsInAreaAt, IsInAreas}
 use Rattle.union_locator.proofs.SingleAreas.{inside_here, boundary_here, outside_here, all_passed}
-use Rattle.union_locator.proofs.areas.locate_in_areas.Goals as goal
-use Rattle.union_locator.proofs.areas.locate_in_areas.Goals.{in-Boundary, in-Exterior}
+use Rattle.union_locator.proofs.areas.locate_in_all.Goals as goal
+use Rattle.union_locator.proofs.areas.locate_in_all.Goals.{in-Boundary, in-Exterior}
 
 pub overflow_cast-place : goal.overflow_cast-place
 overflow_cast-place g c =

@@ -1,0 +1,149 @@
+-- Which shells of areas are near a point, found by a scan of their boxes or by an index of the diagonals of the boxes, and what this
+-- means for the areas.
+use Rattle.std.proofs.Common.{◌≡◌, ℕ, ◌<◌, List, [], ◌∷◌, length, get_or, refl, sym, subst, arith}
+use Rattle.std.specs.Prelude.{Some, map}
+use Rattle.std.proofs.lemmas.Bool.{or_left}
+use Rattle.std.proofs.lemmas.Int.{ints, clamps}
+use Rattle.std.proofs.lemmas.List.Elements.{All-weaker}
+use Rattle.std.proofs.lemmas.Option.{slice_get-get_or, slice_get_within}
+use Rattle.plane_laws.specs.Plane.{Point, IsSamePoint}
+use Rattle.plane_laws.proofs.Points.Same.{same_refl, Decides-is_same_point}
+use Rattle.plane_exact.specs.Places.{point_of}
+use Rattle.plane_exact.specs.Windows.{HasCommonPoint, IsLeastWindow, low_corner, high_corner}
+use Rattle.plane_exact.specs.declared.point.Pt.{Pt}
+use Rattle.plane_exact.specs.declared.point.Seg.{Seg}
+use Rattle.plane_exact.specs.declared.window.Window.{Window}
+use Rattle.plane_exact.proofs.Laws.{least_of_ends, low_at_most_high}
+use Rattle.edge_index.specs.Segments.{ArePlacesIn, IsWindowOf, MeetsAtPlace}
+use Rattle.point_set.specs.declared.figure.Area.{Area}
+use Rattle.point_set.specs.declared.figure.Figure.{Figure}
+use Rattle.point_set.specs.Extents.{IsEnvelope}
+use Rattle.point_set.specs.Lines.{is_at, is_at_some}
+use Rattle.point_set.specs.Shape.{IsWellShaped}
+use Rattle.point_set.specs.Validity.{IsAtPlace, IsValid}
+use Rattle.figure_laws.proofs.Edges.Windows.{one_least_window}
+use Rattle.union_locator.specs.Areas.{AreNearAreas}
+use Rattle.union_locator.specs.Shells.{AreBoxesNear, AreShellBoxes, AreShellsNear, IsBoxNearAt, IsShellBox, IsShellNearAt, diagonal_of}
+use Rattle.union_locator.proofs.BeyondShells.{apart_is_out, near_by_boxes, outside_exterior, within_holds}
+use Rattle.union_locator.proofs.MeetingPlaces.{image_at, source_at}
+use Rattle.union_locator.proofs.SingleAreas.{some_item}
+
+-- ---- a box and its diagonal
+-- a box that has a point is the window of its diagonal
+diagonal_window : (box other : Window) → HasCommonPoint box other → IsWindowOf (diagonal_of box) box
+diagonal_window box other common =
+    let sides = low_at_most_high box other common in
+    least_of_ends box (low_corner box) (high_corner box) (omega (arith, ints, clamps, sides.0)) (omega (arith, ints, clamps, sides.1))
+    (omega (arith, ints, clamps, sides.0)) (omega (arith, ints, clamps, sides.1))
+
+-- the box of a shell has one
+some_held : (positions : List Pt) (box : Window) → IsEnvelope positions (Some box) → HasCommonPoint box box
+some_held [] box is = absurd (is.0 refl)
+some_held (q ∷ others) box is =
+    let at = (Decides-is_same_point (point_of q) (point_of q)).1 (same_refl (point_of q)) in
+    let inside = is.1.holds (point_of q) (or_left (is_at (point_of q) q) (is_at_some (point_of q) others) at) in
+    record { point = point_of q; here = inside; there = inside }
+
+-- ---- near boxes are those of near shells
+module _ (areas : List Area) (boxes : List Window) (are : AreShellBoxes areas boxes) (w : Window) where
+  -- the area that a box belongs to
+  record HasShell (place : ℕ) (box : Window) : Type 0 where
+    area : Area
+    area_is : IsAtPlace areas place area
+    is : IsShellBox area box
+
+  has_shell : (place : ℕ) (box : Window) → IsAtPlace boxes place box → HasShell place box
+  has_shell place box box_is =
+      let within = slice_get_within boxes place box box_is in
+      let count = are.count in
+      let below : place < length areas = omega (arith, within, count) in
+      let x = some_item areas place below in
+      let area_is = slice_get-get_or areas place x.0 below in
+      record { area = get_or areas place x.0; area_is = area_is; is = are.each place (get_or areas place x.0) box area_is box_is }
+
+  -- and the box of an area
+  record HasBox (place : ℕ) (area : Area) : Type 0 where
+    box : Window
+    box_is : IsAtPlace boxes place box
+    is : IsShellBox area box
+
+  has_box : (place : ℕ) (area : Area) → IsAtPlace areas place area → HasBox place area
+  has_box place area area_is =
+      let within = slice_get_within areas place area area_is in
+      let count = are.count in
+      let below : place < length boxes = omega (arith, within, count) in
+      let x = some_item boxes place below in
+      let box_is = slice_get-get_or boxes place x.0 below in
+      record { box = get_or boxes place x.0; box_is = box_is; is = are.each place area (get_or boxes place x.0) area_is box_is }
+
+  -- ---- by the index
+  module _ (segs : List Seg) (same : segs ≡ map diagonal_of boxes) where
+    box_of_seg : (place : ℕ) → MeetsAtPlace w segs place → IsBoxNearAt w boxes place
+    box_of_seg place m =
+        let s = source_at diagonal_of boxes place m.seg (subst (λ (xs : List Seg). IsAtPlace xs place m.seg) same m.seg_is) in
+        let shell = has_shell place s.item s.is in
+        let own = diagonal_window s.item s.item (some_held shell.area.shell s.item shell.is) in
+        let found : IsWindowOf (diagonal_of s.item) m.meets.box = subst (λ (z : Seg). IsWindowOf z m.meets.box) (sym s.same) m.meets.least in
+        record {
+          box = s.item;
+          box_is = s.is;
+          common = record {
+            point = m.meets.common.point;
+            here = m.meets.common.there;
+            there = within_holds (one_least_window found own) m.meets.common.point m.meets.common.here;
+          };
+        }
+
+    seg_of_box : (place : ℕ) → IsBoxNearAt w boxes place → MeetsAtPlace w segs place
+    seg_of_box place near =
+        let common : HasCommonPoint near.box w = record { point = near.common.point; here = near.common.there; there = near.common.here } in
+        record {
+          seg = diagonal_of near.box;
+          seg_is =
+              subst (λ (xs : List Seg). IsAtPlace xs place (diagonal_of near.box)) (sym same) (image_at diagonal_of boxes place near.box near.box_is);
+          meets = record { box = near.box; least = diagonal_window near.box w common; common = common };
+        }
+
+    pub boxes_by_index : (out : List ℕ) → ArePlacesIn w segs out → AreBoxesNear w boxes out
+    boxes_by_index out found = record {
+      ascending = found.ascending;
+      near = All-weaker (MeetsAtPlace w segs) (IsBoxNearAt w boxes) (λ place m. box_of_seg place m) out found.meet;
+      whole = λ place near. found.whole place (seg_of_box place near);
+    }
+
+  -- ---- shells by their boxes
+  pub shells_by_boxes : (p : Point) → IsLeastWindow (IsSamePoint p) w → (out : List ℕ) → AreBoxesNear w boxes out → AreShellsNear areas p out
+  shells_by_boxes p round out found = record {
+    window = w;
+    round = round;
+    ascending = found.ascending;
+    near = All-weaker (IsBoxNearAt w boxes) (IsShellNearAt areas p) (λ place n. shell_near place n) out found.near;
+    whole = λ place n. found.whole place (box_near place n);
+  }
+    where
+      shell_near : (place : ℕ) → IsBoxNearAt w boxes place → IsShellNearAt areas p place
+      shell_near place n =
+          let h = has_shell place n.box n.box_is in
+          record { area = h.area; area_is = h.area_is; near = (near_by_boxes h.area p w n.box round h.is).1 n.common }
+
+      box_near : (place : ℕ) → IsShellNearAt areas p place → IsBoxNearAt w boxes place
+      box_near place n =
+          let h = has_box place n.area n.area_is in
+          record { box = h.box; box_is = h.box_is; common = (near_by_boxes n.area p w h.box round h.is).0 n.near }
+
+-- ---- a point is outside of every area whose shell isn't near it
+pub near_areas : (f : Figure) (boxes : List Window) (p : Point) (places : List ℕ) → IsWellShaped f → IsValid f → AreShellBoxes f.areas boxes
+    → AreShellsNear f.areas p places → AreNearAreas f.areas p places
+near_areas f boxes p places shaped valid are found = record {
+  ascending = found.ascending;
+  within =
+      All-weaker (IsShellNearAt f.areas p) (λ place. place < length f.areas) (λ place n. slice_get_within f.areas place n.area n.area_is) places
+      found.near;
+  far = λ place area is none.
+      let h = has_box f.areas boxes are found.window place area is in
+      outside_exterior f shaped valid place area is h.box h.is p
+      (apart_is_out p found.window h.box found.round (λ common.
+      none
+      (found.whole place
+      (record { area = area; area_is = is; near = (near_by_boxes area p found.window h.box found.round h.is).1 common }))));
+}
