@@ -176,8 +176,8 @@ name_within name f xs cells are p place near =
 
 -- the one at the next place is asked for
 pub asked_here :
-    (areas : List Area) (p : Point) (old new : List SeenCell) (places : List ℕ) (i : ℕ) (c d : SeenCell) → AreAskedTo areas p old new places i
-    → IsShellNearAt areas p (get_or places i 0) → IsAtPlace new (get_or places i 0) c → IsLater c d → WasAsked d
+    (areas : List Area) (p : Point) (old new : List SeenCell) (places : List ℕ) (i : ℕ) (c d : SeenCell)
+    → AreAskedTo areas p old new places i → IsShellNearAt areas p (get_or places i 0) → IsAtPlace new (get_or places i 0) c → IsLater c d → WasAsked d
     → AreAskedTo areas p old (set new (get_or places i 0) d) places (i + 1)
 asked_here areas p old new places i c d to near at_c later asked = record {
   later = later_at old new k c d to.later at_c later;

@@ -83,7 +83,7 @@ module _ (areas : List Area) (boxes : List Window) (are : AreShellBoxes areas bo
         let s = source_at diagonal_of boxes place m.seg (subst (λ (xs : List Seg). IsAtPlace xs place m.seg) same m.seg_is) in
         let shell = has_shell place s.item s.is in
         let own = diagonal_window s.item s.item (some_held shell.area.shell s.item shell.is) in
-        let found : IsWindowOf (diagonal_of s.item) m.meets.box = subst (λ (z : Seg). IsWindowOf z m.meets.box) (sym s.same) m.meets.least in
+        let found : IsWindowOf (diagonal_of s.item) m.meets.box = subst (λ z. IsWindowOf z m.meets.box) (sym s.same) m.meets.least in
         record {
           box = s.item;
           box_is = s.is;
@@ -100,7 +100,8 @@ module _ (areas : List Area) (boxes : List Window) (are : AreShellBoxes areas bo
         record {
           seg = diagonal_of near.box;
           seg_is =
-              subst (λ (xs : List Seg). IsAtPlace xs place (diagonal_of near.box)) (sym same) (image_at diagonal_of boxes place near.box near.box_is);
+              subst (λ (xs : List Seg). IsAtPlace xs place (diagonal_of near.box)) (sym same)
+              (image_at diagonal_of boxes place near.box near.box_is);
           meets = record { box = near.box; least = diagonal_window near.box w common; common = common };
         }
 
@@ -112,7 +113,8 @@ module _ (areas : List Area) (boxes : List Window) (are : AreShellBoxes areas bo
     }
 
   -- ---- shells by their boxes
-  pub shells_by_boxes : (p : Point) → IsLeastWindow (IsSamePoint p) w → (out : List ℕ) → AreBoxesNear w boxes out → AreShellsNear areas p out
+  pub shells_by_boxes :
+      (p : Point) → IsLeastWindow (IsSamePoint p) w → (out : List ℕ) → AreBoxesNear w boxes out → AreShellsNear areas p out
   shells_by_boxes p round out found = record {
     window = w;
     round = round;

@@ -111,7 +111,8 @@ pub passed : (w : Window) (items rows : List Edge) (k : ℕ) (d : Edge) {box : W
     → AreRowsBelow w rows (k + 1) out
 passed w items rows k d {box} out same below least apart h = none_more (MeetsAtPlace w (owned_edges rows)) k out h (λ m.
     let row = get_or items k d in
-    let here : owned_edge row ≡ m.edge = some_same (sym (image_at owned_edge rows k row (item_read items rows k d same below)) ∙ m.edge_is) in
+    let at = image_at owned_edge rows k row (item_read items rows k d same below) in
+    let here : owned_edge row ≡ m.edge = some_same (sym at ∙ m.edge_is) in
     apart ((meets_by_least w row.seg box least).0 (subst (λ (z : OwnedEdge). MeetsWindow w z.seg) (sym here) m.meets)))
 
 -- Past the last row these are all.
@@ -132,7 +133,8 @@ pub box_pushed : (w : Window) (items boxes : List Window) (k : ℕ) (d : Window)
     → ArePlacesBelow (IsBoxNearAt w boxes) (k + 1) new
 box_pushed w items boxes k d out new same below common h e =
     subst (λ (xs : List ℕ). ArePlacesBelow (IsBoxNearAt w boxes) (k + 1) xs) (sym e)
-    (one_more (IsBoxNearAt w boxes) k out h (record { box = get_or items k d; box_is = item_read items boxes k d same below; common = common }))
+    (one_more (IsBoxNearAt w boxes) k out h
+    (record { box = get_or items k d; box_is = item_read items boxes k d same below; common = common }))
 
 -- One that doesn't leaves the list.
 pub box_passed : (w : Window) (items boxes : List Window) (k : ℕ) (d : Window) (out : List ℕ) → items ≡ boxes → k < length items

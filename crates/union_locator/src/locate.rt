@@ -18,8 +18,8 @@ use std::alloc::Global;
 /// is one for the figure, `rows` are the figure's edges, `near` are the places of exactly the edges whose windows meet
 /// `Window::round(n)`, and `ends` are the ends of the figure's lines with its spots.
 ///
-/// Takes memory only where the node is on the boundary of an area and inside none, for the edges of areas that hold it, and
-/// what `areas` takes.
+/// Takes memory where the node is on the boundary of an area and inside none, for the edges of areas that hold it; where the areas
+/// are more than 32, for the places of those near the node; and what `areas` takes.
 ///
 /// # Errors
 /// `NoMemory`.

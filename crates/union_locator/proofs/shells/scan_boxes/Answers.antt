@@ -14,8 +14,8 @@ loop-place-preserved c =
     elim c.if-meets.branch [
       | then-meets+in_ok-push t ↦
           subst (ArePlacesBelow (IsBoxNearAt w boxes) _) (sym t.out-is)
-          (box_pushed w items boxes k _ c.loop-place.out t.push.new.self same c.loop-place-test.true (c.meets.ensures.common.0 t.if-meets.true)
-          c.loop-place.invariant t.in_ok-push.ensures.ok)
+          (box_pushed w items boxes k _ c.loop-place.out t.push.new.self same c.loop-place-test.true
+          (c.meets.ensures.common.0 t.if-meets.true) c.loop-place.invariant t.in_ok-push.ensures.ok)
       | else-meets t ↦
           subst (ArePlacesBelow (IsBoxNearAt w boxes) _) (sym t.out-is)
           (box_passed w items boxes k _ c.loop-place.out same c.loop-place-test.true

@@ -25,7 +25,7 @@ returns-in-None c = record {
   near = IfOk-weaker c.scan_boxes.result _ _
       (λ _ found areas are.
       let own = subst (AreShellBoxes areas) (sym c.self.view_is) are in
-      shells_by_boxes areas c.self.inside.boxes own c.round-window.result (point_at c.args.n.now) c.round-window.ensures.least c.scan_boxes.new.out
-      found)
+      let w = c.round-window.result in
+      shells_by_boxes areas c.self.inside.boxes own w (point_at c.args.n.now) c.round-window.ensures.least c.scan_boxes.new.out found)
       c.scan_boxes.ensures.places;
 }
