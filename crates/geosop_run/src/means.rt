@@ -31,9 +31,14 @@ impl Workers {
 
 /// How many positions a figure has.
 fn size_of(figure: &Figure) -> usize {
-    let mut size = figure.points.len().saturating_add(size_of_ways(&figure.lines));
+    let mut size = figure
+        .points
+        .len()
+        .saturating_add(size_of_ways(&figure.lines));
     for area in figure.areas.as_slice() {
-        size = size.saturating_add(area.shell.len()).saturating_add(size_of_ways(&area.holes));
+        size = size
+            .saturating_add(area.shell.len())
+            .saturating_add(size_of_ways(&area.holes));
     }
     size
 }
