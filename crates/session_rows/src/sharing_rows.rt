@@ -92,19 +92,45 @@ fn of_two(prepared: &Prepared) -> Result<(Option<Origins>, Option<Origins>), NoM
     Ok((known(&early), known(&late)))
 }
 
+/// Whether these are the places.
+fn are(places: &PlaceList, wanted: &[u32]) -> bool {
+    places.as_slice() == wanted
+}
+
+/// Whether a session that asks for the edges at a position finds these, and what it knows then.
+fn finds(
+    alloc: Global,
+    prepared: &Prepared,
+    at: Pt,
+    wanted: &[u32],
+) -> Result<Option<Origins>, NoMemory> {
+    let (known, near) = of_edges(alloc, prepared, at.x, at.y)?;
+    Ok(if are(&near, wanted) { known } else { None })
+}
+
 #[test]
-fn the_first_query_makes_an_index_that_another_session_finds(rt: HostRuntime) -> Result<(), Fail> {
+fn the_first_query_makes_an_index(rt: HostRuntime) -> Result<(), Fail> {
     let prepared = square(rt.alloc())?;
-    assert_eq!(rt; of_new(&prepared)?, Some(NOTHING));
-    let (made, left) = of_edges(rt.alloc(), &prepared, 0, 2)?;
-    assert_eq!(rt; left.as_slice(), [3].as_slice());
+    let made = finds(rt.alloc(), &prepared, Pt { x: 0, y: 2 }, &[3])?;
     let edges = Origin::Made;
-    assert_eq!(rt; made, Some(Origins { edges, ..NOTHING }));
-    assert_eq!(rt; of_new(&prepared)?, Some(NOTHING));
-    let (found, corner) = of_edges(rt.alloc(), &prepared, 4, 4)?;
-    assert_eq!(rt; corner.as_slice(), [1, 2].as_slice());
+    assert!(rt; made == Some(Origins { edges, ..NOTHING }));
+    Ok(())
+}
+
+#[test]
+fn another_session_finds_the_index(rt: HostRuntime) -> Result<(), Fail> {
+    let prepared = square(rt.alloc())?;
+    finds(rt.alloc(), &prepared, Pt { x: 0, y: 2 }, &[3])?;
+    let found = finds(rt.alloc(), &prepared, Pt { x: 4, y: 4 }, &[1, 2])?;
     let edges = Origin::Found;
-    assert_eq!(rt; found, Some(Origins { edges, ..NOTHING }));
+    assert!(rt; found == Some(Origins { edges, ..NOTHING }));
+    Ok(())
+}
+
+#[test]
+fn a_session_that_asks_nothing_knows_nothing(rt: HostRuntime) -> Result<(), Fail> {
+    let prepared = square(rt.alloc())?;
+    assert!(rt; of_new(&prepared)? == Some(NOTHING));
     Ok(())
 }
 
