@@ -20,7 +20,8 @@ use Rattle.y_index.specs.Heights.{holds_height, rows_at, items_at}
 use Rattle.y_index.specs.Levels.{IsLevel}
 use Rattle.y_index.specs.Trees.{span_of}
 use Rattle.y_index.specs.declared.rows.SpanRow.{SpanRow}
-use Rattle.area_locator.proofs.RowEdges.{no_edge, edge_of, HasEdge, have_edges, edges_moved, is_odd-IsPermutation, MissesUnkept, on_kept, odd_kept}
+use Rattle.area_locator.proofs.RowEdges.{no_edge, edge_of, HasEdge, have_edges, edges_moved, is_odd-IsPermutation, MissesUnkept, on_kept}
+use Rattle.area_locator.proofs.RowEdges.{odd_kept}
 use Rattle.area_locator.proofs.Tally.{StepsByEdges, tally}
 use Rattle.area_locator.proofs.Touching.{misses_below, misses_above, misses_by}
 use Rattle.area_locator.specs.Indexed.{heights_of, AreRowsOfEdges}

@@ -1,5 +1,6 @@
 -- Rows of edges: each row has an edge, and all rows together have all edges.
-use Rattle.std.proofs.Common.{◌≡◌, ℕ, zero, suc, ◌+◌, ◌<◌, Bool, true, false, not, ◌||◌, cond, List, [], ◌∷◌, length, get_or, pos, ap, refl, sym, ◌∙◌, subst, arith, zero-add}
+use Rattle.std.proofs.Common.{◌≡◌, ℕ, zero, suc, ◌+◌, ◌<◌, Bool, true, false, not, ◌||◌, cond, List, [], ◌∷◌, length, get_or, pos, ap, refl}
+use Rattle.std.proofs.Common.{sym, ◌∙◌, subst, arith, zero-add}
 use Rattle.std.specs.Prelude.{map}
 use Rattle.std.specs.List.{All, enumerate_from, filter, count_by}
 use Rattle.std.specs.List.Sorted.{IsPermutation}

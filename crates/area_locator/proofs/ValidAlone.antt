@@ -1,7 +1,8 @@
 -- An area of a valid figure is valid by itself.
 use Rattle.std.proofs.Common.{◌≡◌, ℕ, zero, suc, [], ◌∷◌, refl, sym, subst, arith}
 use Rattle.std.proofs.lemmas.Option.{same_Some, none-some}
-use Rattle.point_set.specs.Validity.{IsAtPlace, SomeArea, SomeEarlier, IsValid, too_few_points, ring_cross, rings_share_edge, hole_outside, holes_overlap, disconnected, elements_share_edge, elements_overlap}
+use Rattle.point_set.specs.Validity.{IsAtPlace, SomeArea, SomeEarlier, IsValid, too_few_points, ring_cross, rings_share_edge, hole_outside}
+use Rattle.point_set.specs.Validity.{holes_overlap, disconnected, elements_share_edge, elements_overlap}
 use Rattle.point_set.specs.declared.figure.Area.{Area}
 use Rattle.point_set.specs.declared.figure.Figure.{Figure}
 use Rattle.area_locator.specs.Validity.{figure_of, IsValidArea}

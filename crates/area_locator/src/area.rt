@@ -30,7 +30,8 @@ pub fn locate_plain(area: &Area, n: &Node) -> Loc
 /// else Exterior.
 fn locate_in_some(rings: &[Path], n: &Node) -> Loc
     requires limit { All IsWayInLimit rings.now }
-    ensures location { result ≡ location_by (is_on_edges (point_at n.now) (edges_of_rings rings.now)) (list_any (is_inside (point_at n.now)) rings.now) false }
+    ensures location { result ≡ location_by (is_on_edges (point_at n.now) (edges_of_rings rings.now))
+        (list_any (is_inside (point_at n.now)) rings.now) false }
 {
     let mut inside = false;
     for ring in rings {

@@ -26,7 +26,8 @@ pub fn ring_locate(ring: &Path, n: &Node) -> Loc
 fn locate_after(first: Pt, others: &[Pt], n: &Node) -> Loc
     requires first { IsInLimit first }
     requires others { IsWayInLimit others.now }
-    ensures location { result ≡ location_by (is_on_edges (point_at n.now) (edges_after first others.now)) (is_odd (point_at n.now) (edges_after first others.now)) false }
+    ensures location { result ≡ location_by (is_on_edges (point_at n.now) (edges_after first others.now))
+        (is_odd (point_at n.now) (edges_after first others.now)) false }
 {
     let level = level_of(n);
     let mut last = first;

@@ -1,5 +1,6 @@
 -- The rows of an index are a tree of boxes with a leaf for each segment.
-use Rattle.std.proofs.Common.{◌≡◌, ◌≢◌, ℕ, zero, suc, ◌+◌, ◌-◌, ◌*◌, ◌<◌, ◌≤◌, ◌⊎◌, inl, inr, List, length, get_or, refl, sym, ◌∙◌, ap, ap₂, subst, subst₂, arith}
+use Rattle.std.proofs.Common.{◌≡◌, ◌≢◌, ℕ, zero, suc, ◌+◌, ◌-◌, ◌*◌, ◌<◌, ◌≤◌, ◌⊎◌, inl, inr, List, length, get_or, refl, sym, ◌∙◌, ap, ap₂}
+use Rattle.std.proofs.Common.{subst, subst₂, arith}
 use Rattle.std.specs.Prelude.{slice_get, slice_index, slice_index_or, Some, All}
 use Rattle.std.specs.List.{AllPairs}
 use Rattle.std.proofs.lemmas.Bool.{cases_lt, cond_above}
@@ -27,7 +28,8 @@ pub places_count : (segs : List Seg) (leaves : List ℕ) → AreAllPlaces segs l
 places_count segs leaves all = length_permutation _ leaves all ∙ length-range_with_len 0 (length segs)
 
 -- equal numbers of a list of different ones are at one place
-same_place : (xs : List ℕ) → AllPairs (λ (x y : ℕ). x ≢ y) xs → (i j : ℕ) → i < length xs → j < length xs → get_or xs i 0 ≡ get_or xs j 0 → i ≡ j
+same_place :
+    (xs : List ℕ) → AllPairs (λ (x y : ℕ). x ≢ y) xs → (i j : ℕ) → i < length xs → j < length xs → get_or xs i 0 ≡ get_or xs j 0 → i ≡ j
 same_place xs pairs i j h k same = by_order (cases_lt i j) (cases_lt j i)
   where
     by_order : (i < j) ⊎ (j ≤ i) → (j < i) ⊎ (i ≤ j) → i ≡ j
@@ -43,37 +45,60 @@ module _ (segs : List Seg) (leaves : List ℕ) (inner : List Window) (index : Is
   pub row_there : (place : ℕ) → place < 2 * length leaves - 1 → IsRowAt (rows_of segs leaves inner) place (row_at segs leaves inner place)
   row_there place h =
       slice_get-get_or (rows_of segs leaves inner) place (row_at segs leaves inner place) (omega (arith, rows_count))
-      ∙ ap (λ (row : BoxRow). Some row) (get_or-map-range_with_len (row_at segs leaves inner) 0 (2 * length leaves - 1) place place (row_at segs leaves inner place) h (omega arith))
+      ∙ ap (λ (row : BoxRow). Some row)
+      (get_or-map-range_with_len (row_at segs leaves inner) 0 (2 * length leaves - 1) place place (row_at segs leaves inner place) h
+      (omega arith))
 
-  pub row_is : (place : ℕ) (row : BoxRow) → IsRowAt (rows_of segs leaves inner) place row → (place < 2 * length leaves - 1) × (row ≡ row_at segs leaves inner place)
+  pub row_is :
+      (place : ℕ) (row : BoxRow) → IsRowAt (rows_of segs leaves inner) place row
+      → (place < 2 * length leaves - 1) × (row ≡ row_at segs leaves inner place)
   row_is place row at =
       let within = slice_get_within (rows_of segs leaves inner) place row at in
-      let below : place < 2 * length leaves - 1 = omega (arith, rows_count) in
-      (below, sym (get_or_from_slice_get (rows_of segs leaves inner) place row row at) ∙ get_or-map-range_with_len (row_at segs leaves inner) 0 (2 * length leaves - 1) place place row below (omega arith))
+      let below : place < 2 * length leaves - 1 = omega (arith, rows_count) in (
+        below,
+        sym (get_or_from_slice_get (rows_of segs leaves inner) place row row at)
+            ∙ get_or-map-range_with_len (row_at segs leaves inner) 0 (2 * length leaves - 1) place place row below (omega arith),
+      )
 
   -- an inner row's window is joined from those of its children
-  window_children : (place : ℕ) → place + 1 < length leaves → window_at segs leaves inner place ≡ joined (window_at segs leaves inner (2 * place + 1)) (window_at segs leaves inner (2 * place + 2))
+  window_children :
+      (place : ℕ) → place + 1 < length leaves
+      → window_at segs leaves inner place ≡ joined (window_at segs leaves inner (2 * place + 1))
+      (window_at segs leaves inner (2 * place + 2))
   window_children place below = by_side (cases_lt place (length inner))
     where
-      by_side : (place < length inner) ⊎ (length inner ≤ place) → window_at segs leaves inner place ≡ joined (window_at segs leaves inner (2 * place + 1)) (window_at segs leaves inner (2 * place + 2))
+      by_side :
+          (place < length inner) ⊎ (length inner ≤ place)
+          → window_at segs leaves inner place ≡ joined (window_at segs leaves inner (2 * place + 1))
+          (window_at segs leaves inner (2 * place + 2))
       by_side (inl kept) = window_kept segs leaves inner place kept ∙ index.boxes.each place kept
       by_side (inr past) =
           let count = index.boxes.count in
           let first : 2 * place + 2 - length leaves ≡ 2 * place + 1 + 1 - length leaves = omega arith in
           let second : 2 * place + 3 - length leaves ≡ 2 * place + 2 + 1 - length leaves = omega arith in
-          let left = ap (leaf_window segs leaves) first ∙ sym (window_leaf segs leaves inner (2 * place + 1) (omega arith) (omega (arith, count))) in
-          let right = ap (leaf_window segs leaves) second ∙ sym (window_leaf segs leaves inner (2 * place + 2) (omega arith) (omega (arith, count))) in
+          let left = ap (leaf_window segs leaves) first
+          ∙ sym (window_leaf segs leaves inner (2 * place + 1) (omega arith) (omega (arith, count))) in
+          let right = ap (leaf_window segs leaves) second
+          ∙ sym (window_leaf segs leaves inner (2 * place + 2) (omega arith) (omega (arith, count))) in
           window_joined segs leaves inner place past below ∙ ap₂ joined left right
 
   -- each window is proper
-  proper_at : (room place : ℕ) → 2 * length leaves - 1 ≤ room + place → place < 2 * length leaves - 1 → IsProper (window_at segs leaves inner place)
+  proper_at :
+      (room place : ℕ) → 2 * length leaves - 1 ≤ room + place → place < 2 * length leaves - 1 → IsProper (window_at segs leaves inner place)
   proper_at zero place h within = absurd (omega arith)
   proper_at (suc room) place h within = by_side (cases_lt (place + 1) (length leaves))
-      (λ (below : place + 1 < length leaves). proper_at room (2 * place + 1) (omega arith) (omega arith)) (λ (below : place + 1 < length leaves). proper_at room (2 * place + 2) (omega arith) (omega arith))
+      (λ (below : place + 1 < length leaves). proper_at room (2 * place + 1) (omega arith) (omega arith))
+      (λ (below : place + 1 < length leaves). proper_at room (2 * place + 2) (omega arith) (omega arith))
     where
-      by_side : (place + 1 < length leaves) ⊎ (length leaves ≤ place + 1) → (place + 1 < length leaves → IsProper (window_at segs leaves inner (2 * place + 1))) → (place + 1 < length leaves → IsProper (window_at segs leaves inner (2 * place + 2))) → IsProper (window_at segs leaves inner place)
+      by_side :
+          (place + 1 < length leaves) ⊎ (length leaves ≤ place + 1)
+          → (place + 1 < length leaves → IsProper (window_at segs leaves inner (2 * place + 1)))
+          → (place + 1 < length leaves → IsProper (window_at segs leaves inner (2 * place + 2)))
+          → IsProper (window_at segs leaves inner place)
       by_side (inl below) left right = subst IsProper (sym (window_children place below)) (proper_joined _ _ (left below) (right below))
-      by_side (inr leaf) left right = subst IsProper (sym (window_leaf segs leaves inner place (omega (arith, index.boxes.count)) leaf)) (proper_of (slice_index_or segs (slice_index leaves (place + 1 - length leaves)) no_segment))
+      by_side (inr leaf) left right =
+          subst IsProper (sym (window_leaf segs leaves inner place (omega (arith, index.boxes.count)) leaf))
+          (proper_of (slice_index_or segs (slice_index leaves (place + 1 - length leaves)) no_segment))
 
   pub proper_row : (place : ℕ) → place < 2 * length leaves - 1 → IsProper (window_at segs leaves inner place)
   proper_row place within = proper_at (2 * length leaves - 1) place (omega arith) within
@@ -87,7 +112,10 @@ module _ (segs : List Seg) (leaves : List ℕ) (inner : List Window) (index : Is
   leaf_item place leaf = sym (cond_above (place + 1) (length leaves) _ _ _ leaf refl)
 
   -- the window of an inner row is the least one that holds those of its children
-  least_row : (place : ℕ) (row left right : BoxRow) → place < length leaves - 1 → IsRowAt (rows_of segs leaves inner) place row → IsRowAt (rows_of segs leaves inner) (2 * place + 1) left → IsRowAt (rows_of segs leaves inner) (2 * place + 2) right → IsLeastWindow (IsInEither left.window right.window) row.window
+  least_row :
+      (place : ℕ) (row left right : BoxRow) → place < length leaves - 1 → IsRowAt (rows_of segs leaves inner) place row
+      → IsRowAt (rows_of segs leaves inner) (2 * place + 1) left → IsRowAt (rows_of segs leaves inner) (2 * place + 2) right
+      → IsLeastWindow (IsInEither left.window right.window) row.window
   least_row place row left right below here first second =
       let window = λ (r : BoxRow). r.window in
       let one = window_at segs leaves inner (2 * place + 1) in
@@ -95,10 +123,13 @@ module _ (segs : List Seg) (leaves : List ℕ) (inner : List Window) (index : Is
       let outer = ap window (row_is place row here).1 ∙ window_children place (omega arith) in
       let least = least_joined one other (proper_row (2 * place + 1) (omega arith)) (proper_row (2 * place + 2) (omega arith)) in
       subst (λ (box : Window). IsLeastWindow (IsInEither left.window right.window) box) (sym outer)
-      (subst₂ (λ (l r : Window). IsLeastWindow (IsInEither l r) (joined one other)) (sym (ap window (row_is (2 * place + 1) left first).1)) (sym (ap window (row_is (2 * place + 2) right second).1)) least)
+      (subst₂ (λ (l r : Window). IsLeastWindow (IsInEither l r) (joined one other)) (sym (ap window (row_is (2 * place + 1) left first).1))
+      (sym (ap window (row_is (2 * place + 2) right second).1)) least)
 
   -- the item of a leaf's row is that of the leaf, below the number of segments
-  row_item : (place : ℕ) (row : BoxRow) → length leaves - 1 ≤ place → IsRowAt (rows_of segs leaves inner) place row → (place + 1 - length leaves < length leaves) × (row.item ≡ slice_index leaves (place + 1 - length leaves))
+  row_item :
+      (place : ℕ) (row : BoxRow) → length leaves - 1 ≤ place → IsRowAt (rows_of segs leaves inner) place row
+      → (place + 1 - length leaves < length leaves) × (row.item ≡ slice_index leaves (place + 1 - length leaves))
   row_item place row leaf at =
       let is = row_is place row at in
       (omega (arith, is.0), ap (λ (r : BoxRow). r.item) is.1 ∙ leaf_item place (omega (arith, is.0)))
@@ -113,7 +144,8 @@ module _ (segs : List Seg) (leaves : List ℕ) (inner : List Window) (index : Is
     different = λ place other row twin leaf leaf' here there same.
         let one = row_item place row leaf here in
         let two = row_item other twin leaf' there in
-        let leaf_same = same_place leaves leaves_differ (place + 1 - length leaves) (other + 1 - length leaves) one.0 two.0 (sym one.1 ∙ same ∙ two.1) in
+        let leaf_same = same_place leaves leaves_differ (place + 1 - length leaves) (other + 1 - length leaves) one.0 two.0
+        (sym one.1 ∙ same ∙ two.1) in
         omega (arith, leaf_same, one.0, two.0);
   }
 
@@ -129,17 +161,22 @@ module _ (segs : List Seg) (leaves : List ℕ) (inner : List Window) (index : Is
   leaves_begin place h = omega (arith, rows_count)
 
   -- a leaf is that of a segment
-  leaf_of_segment : (place : ℕ) (row : BoxRow) → inner_count (rows_of segs leaves inner) ≤ place → IsRowAt (rows_of segs leaves inner) place row → IsLeafOf segs row
+  leaf_of_segment :
+      (place : ℕ) (row : BoxRow) → inner_count (rows_of segs leaves inner) ≤ place → IsRowAt (rows_of segs leaves inner) place row
+      → IsLeafOf segs row
   leaf_of_segment place row leaf at =
       let begin = leaves_begin place leaf in
       let is = row_is place row at in
       let item = row_item place row begin at in
       let k = place + 1 - length leaves in
       let seg = slice_index_or segs (slice_index leaves k) no_segment in
-      let box = ap (λ (r : BoxRow). r.window) is.1 ∙ window_leaf segs leaves inner place (omega (arith, index.boxes.count, begin)) (omega (arith, begin, is.0)) in
+      let box = ap (λ (r : BoxRow). r.window) is.1
+      ∙ window_leaf segs leaves inner place (omega (arith, index.boxes.count, begin)) (omega (arith, begin, is.0)) in
       record {
         seg = seg;
-        seg_is = ap (λ (p : ℕ). slice_get segs p) item.1 ∙ slice_get-get_or segs (slice_index leaves k) no_segment (places_within segs leaves index.places k 0 item.0);
+        seg_is =
+            ap (λ (p : ℕ). slice_get segs p) item.1
+            ∙ slice_get-get_or segs (slice_index leaves k) no_segment (places_within segs leaves index.places k 0 item.0);
         least = subst (λ (w : Window). IsWindowOf seg w) (sym box) (least_of_ends (window_of seg) seg.a seg.b refl refl refl refl);
       }
 
@@ -155,7 +192,8 @@ module _ (segs : List Seg) (leaves : List ℕ) (inner : List Window) (index : Is
         row = row_at segs leaves inner there;
         is_leaf = omega (arith, among.1, rows_count);
         is_row = row_there there (omega (arith, among.1));
-        is_item = leaf_item there (omega (arith, among.1)) ∙ ap (slice_index leaves) back ∙ get_or_default leaves leaf 0 place among.1 ∙ among.2;
+        is_item =
+            leaf_item there (omega (arith, among.1)) ∙ ap (slice_index leaves) back ∙ get_or_default leaves leaf 0 place among.1 ∙ among.2;
       }
 
   pub index_leaves : AreLeavesOf segs (rows_of segs leaves inner)

@@ -34,20 +34,50 @@ within_holds inner outer p within h =
 
 -- two boxes are within the box that is joined from them
 joined_holds : (box other : Window) → IsWithin box (joined box other)
-joined_holds box other = record { left = omega (arith, ints, clamps); right = omega (arith, ints, clamps); bottom = omega (arith, ints, clamps); top = omega (arith, ints, clamps) }
+joined_holds box other =
+    record {
+      left = omega (arith, ints, clamps);
+      right = omega (arith, ints, clamps);
+      bottom = omega (arith, ints, clamps);
+      top = omega
+          (arith, ints, clamps);
+    }
 
 joined_holds_other : (box other : Window) → IsWithin other (joined box other)
-joined_holds_other box other = record { left = omega (arith, ints, clamps); right = omega (arith, ints, clamps); bottom = omega (arith, ints, clamps); top = omega (arith, ints, clamps) }
+joined_holds_other box other =
+    record {
+      left = omega (arith, ints, clamps);
+      right = omega (arith, ints, clamps);
+      bottom = omega (arith, ints, clamps);
+      top = omega
+          (arith, ints, clamps);
+    }
 
 -- a proper box has its corners
 has_low : (box : Window) → IsProper box → IsInWindow box (point_of (low_corner box))
-has_low box h = record { left = omega (arith, ints); right = omega (arith, ints, h.across); bottom = omega (arith, ints); top = omega (arith, ints, h.above) }
+has_low box h =
+    record {
+      left = omega (arith, ints);
+      right = omega (arith, ints, h.across);
+      bottom = omega (arith, ints);
+      top = omega
+          (arith, ints, h.above);
+    }
 
 has_high : (box : Window) → IsProper box → IsInWindow box (point_of (high_corner box))
-has_high box h = record { left = omega (arith, ints, h.across); right = omega (arith, ints); bottom = omega (arith, ints, h.above); top = omega (arith, ints) }
+has_high box h =
+    record {
+      left = omega (arith, ints, h.across);
+      right = omega (arith, ints);
+      bottom = omega (arith, ints, h.above);
+      top = omega
+          (arith, ints);
+    }
 
 -- a box that holds both corners of each of two boxes is round the joined one
-round_corners : (box one other : Window) → IsInWindow box (point_of (low_corner one)) → IsInWindow box (point_of (high_corner one)) → IsInWindow box (point_of (low_corner other)) → IsInWindow box (point_of (high_corner other)) → IsWithin (joined one other) box
+round_corners :
+    (box one other : Window) → IsInWindow box (point_of (low_corner one)) → IsInWindow box (point_of (high_corner one))
+    → IsInWindow box (point_of (low_corner other)) → IsInWindow box (point_of (high_corner other)) → IsWithin (joined one other) box
 round_corners box one other a b c d = record {
   left = omega (arith, ints, clamps, a.left, c.left);
   right = omega (arith, ints, clamps, b.right, d.right);
@@ -58,6 +88,13 @@ round_corners box one other a b c d = record {
 -- the joined box is the least one that holds two proper boxes
 pub least_joined : (one other : Window) → IsProper one → IsProper other → IsLeastWindow (IsInEither one other) (joined one other)
 least_joined one other h k = record {
-  holds = λ p. elim [ inl i ↦ within_holds one (joined one other) p (joined_holds one other) i | inr i ↦ within_holds other (joined one other) p (joined_holds_other one other) i ];
-  least = λ box all. round_corners box one other (all _ (inl (has_low one h))) (all _ (inl (has_high one h))) (all _ (inr (has_low other k))) (all _ (inr (has_high other k)));
+  holds =
+      λ p. elim [
+        | inl i ↦ within_holds one (joined one other) p (joined_holds one other) i
+        | inr i ↦ within_holds other (joined one other) p
+            (joined_holds_other one other) i
+      ];
+  least =
+      λ box all. round_corners box one other (all _ (inl (has_low one h))) (all _ (inl (has_high one h))) (all _ (inr (has_low other k)))
+      (all _ (inr (has_high other k)));
 }

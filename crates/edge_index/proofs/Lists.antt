@@ -1,5 +1,6 @@
 -- Lists: what a filter and a map contain, lists of different numbers, and counts over a range.
-use Rattle.std.proofs.Common.{◌≡◌, ◌≢◌, ℕ, zero, suc, ◌+◌, ◌<◌, Bool, true, false, cond, List, [], ◌∷◌, ◌++◌, map, length, sym, ◌∙◌, ap, subst, arith}
+use Rattle.std.proofs.Common.{◌≡◌, ◌≢◌, ℕ, zero, suc, ◌+◌, ◌<◌, Bool, true, false, cond, List, [], ◌∷◌, ◌++◌, map, length, sym, ◌∙◌, ap}
+use Rattle.std.proofs.Common.{subst, arith}
 use Rattle.std.specs.Prelude.{nat_eq, Contains, All}
 use Rattle.std.specs.List.{filter, AllPairs, range_with_len}
 use Rattle.std.specs.List.Sorted.{IsPermutation, IsStrictlyIncreasing, IsSorted}
@@ -32,7 +33,9 @@ element [] h = absurd (omega arith)
 element (x ∷ xs) h = x
 
 -- the images of different elements are different, where f tells apart those of which P holds
-pub AllPairs-map : {X Y : Type 0} (P : X → Type 0) (f : X → Y) → ((x y : X) → P x → P y → f x ≡ f y → x ≡ y) → (xs : List X) → All P xs → AllPairs (λ x y. x ≢ y) xs → AllPairs (λ x y. x ≢ y) (map f xs)
+pub AllPairs-map :
+    {X Y : Type 0} (P : X → Type 0) (f : X → Y) → ((x y : X) → P x → P y → f x ≡ f y → x ≡ y) → (xs : List X) → All P xs
+    → AllPairs (λ x y. x ≢ y) xs → AllPairs (λ x y. x ≢ y) (map f xs)
 AllPairs-map P f tells xs all pairs i j d i_below j_below =
     let n = length-map xs f in
     let within : j < length xs = omega arith in
@@ -44,7 +47,8 @@ AllPairs-map P f tells xs all pairs i j d i_below j_below =
 pub AllPairs-range : (from count : ℕ) → AllPairs (λ (x y : ℕ). x ≢ y) (range_with_len from count)
 AllPairs-range from count i j d i_below j_below =
     let n = length-range_with_len from count in
-    λ same. absurd (omega (arith, get_or-range_with_len from count i d (omega arith), get_or-range_with_len from count j d (omega arith), same))
+    λ same. absurd
+    (omega (arith, get_or-range_with_len from count i d (omega arith), get_or-range_with_len from count j d (omega arith), same))
 
 -- a range contains the numbers from its first to before its end
 pub Contains-range : (count x : ℕ) → x < count → Contains (range_with_len 0 count) x
@@ -57,12 +61,18 @@ All-range count k d within =
 
 -- one more number at the end of a range
 pub range_more : (count : ℕ) → range_with_len 0 (count + 1) ≡ range_with_len 0 count ++ count ∷ []
-range_more count = sym (map-id (range_with_len 0 (count + 1))) ∙ map-range_with_len_more (λ (x : ℕ). x) 0 count count (omega arith) ∙ ap (λ (xs : List ℕ). xs ++ count ∷ []) (map-id (range_with_len 0 count))
+range_more count =
+    sym (map-id (range_with_len 0 (count + 1))) ∙ map-range_with_len_more (λ (x : ℕ). x) 0 count count (omega arith)
+    ∙ ap (λ (xs : List ℕ). xs ++ count ∷ []) (map-id (range_with_len 0 count))
 
 -- different numbers stay different in another order
 pub AllPairs-permutation : (xs ys : List ℕ) → IsPermutation xs ys → AllPairs (λ (x y : ℕ). x ≢ y) xs → AllPairs (λ (x y : ℕ). x ≢ y) ys
-AllPairs-permutation xs ys moved pairs = AllPairs-from_IsDistinct Decides-eqb ys (IsDistinct-IsPermutation nat_eq (λ (x y : ℕ). grind (arith, nat_tests)) xs ys moved (IsDistinct-from_AllPairs Decides-eqb xs pairs))
+AllPairs-permutation xs ys moved pairs =
+    AllPairs-from_IsDistinct Decides-eqb ys
+    (IsDistinct-IsPermutation nat_eq (λ (x y : ℕ). grind (arith, nat_tests)) xs ys moved (IsDistinct-from_AllPairs Decides-eqb xs pairs))
 
 -- different numbers that are sorted rise
 pub increasing_from_sort : (xs : List ℕ) → IsSorted nat_cmp xs → AllPairs (λ (x y : ℕ). x ≢ y) xs → IsStrictlyIncreasing xs
-increasing_from_sort xs sorted pairs = IsStrictlyIncreasing-from_distinct xs (IsNonDecreasingBy-from_sort (λ (x : ℕ). x) xs sorted) (IsDistinct-from_AllPairs Decides-eqb xs pairs)
+increasing_from_sort xs sorted pairs =
+    IsStrictlyIncreasing-from_distinct xs (IsNonDecreasingBy-from_sort (λ (x : ℕ). x) xs sorted)
+    (IsDistinct-from_AllPairs Decides-eqb xs pairs)

@@ -18,7 +18,8 @@ use Rattle.edge_index.proofs.Visits.{View, IsPruned}
 pub Decides-common : (box other : Window) → Decides (have_common_point box other) (HasCommonPoint box other)
 Decides-common box other =
     let across = int_max box.low_x other.low_x in
-    let both = Decides-and _ _ (Decides-int_le (int_max box.low_x other.low_x) (int_min box.high_x other.high_x)) (Decides-int_le (int_max box.low_y other.low_y) (int_min box.high_y other.high_y)) in
+    let both = Decides-and _ _ (Decides-int_le (int_max box.low_x other.low_x) (int_min box.high_x other.high_x))
+    (Decides-int_le (int_max box.low_y other.low_y) (int_min box.high_y other.high_y)) in
     (λ e. let h = both.0 e in common_point box other h.0 h.1, λ h. both.1 (low_at_most_high box other h))
 
 -- the row at a place, and a row of the origin where there is none
@@ -30,14 +31,23 @@ is_row_in rows place h = slice_get-get_or rows place _ h
 
 -- what a walk sees of rows, asked for the window w
 abbrev pub view_of : Window → List BoxRow → View
-view_of w rows = record { inner = inner_count rows; meets = λ (place : ℕ). have_common_point (row_in rows place).window w; item = λ (place : ℕ). (row_in rows place).item }
+view_of w rows =
+    record {
+      inner = inner_count rows;
+      meets = λ (place : ℕ). have_common_point (row_in rows place).window w;
+      item = λ
+          (place : ℕ). (row_in rows place).item;
+    }
 
 -- one row less than twice the leaves
-pub inner_leaves : (leaves : ℕ) (rows : List BoxRow) → IsTreeOf leaves rows → (inner_count rows ≡ leaves - 1) × (length rows ≡ 2 * inner_count rows + 1)
+pub inner_leaves :
+    (leaves : ℕ) (rows : List BoxRow) → IsTreeOf leaves rows → (inner_count rows ≡ leaves - 1) × (length rows ≡ 2 * inner_count rows + 1)
 inner_leaves leaves rows tree = (omega (arith, tree.count, tree.some), omega (arith, tree.count, tree.some))
 
 -- a box that holds two others meets what one of these meets
-pub common_up : (w outer left right : Window) → IsLeastWindow (IsInEither left right) outer → (HasCommonPoint left w → HasCommonPoint outer w) × (HasCommonPoint right w → HasCommonPoint outer w)
+pub common_up :
+    (w outer left right : Window) → IsLeastWindow (IsInEither left right) outer
+    → (HasCommonPoint left w → HasCommonPoint outer w) × (HasCommonPoint right w → HasCommonPoint outer w)
 common_up w outer left right least = (
   λ h. record { point = h.point; here = least.holds h.point (inl h.here); there = h.there },
   λ h. record { point = h.point; here = least.holds h.point (inr h.here); there = h.there },
@@ -50,7 +60,8 @@ pruned_tree w leaves rows tree place below out =
     let row = row_in rows place in
     let first = row_in rows (2 * place + 1) in
     let second = row_in rows (2 * place + 2) in
-    let least = tree.least place row first second (omega arith) (is_row_in rows place (omega arith)) (is_row_in rows (2 * place + 1) (omega arith)) (is_row_in rows (2 * place + 2) (omega arith)) in
+    let least = tree.least place row first second (omega arith) (is_row_in rows place (omega arith))
+    (is_row_in rows (2 * place + 1) (omega arith)) (is_row_in rows (2 * place + 2) (omega arith)) in
     let up = common_up w row.window first.window second.window least in
     let never = λ (h : HasCommonPoint row.window w). false≢true (sym out ∙ (Decides-common row.window w).1 h) in (
       false_from_ne_true _ (λ e. never (up.0 ((Decides-common first.window w).0 e))),

@@ -12,11 +12,16 @@ use Rattle.edge_index.specs.Trees.{IsItemIn, AreItemsIn}
 use Rattle.edge_index.proofs.LeastBoxes.{within_holds}
 
 -- the windows of a segment meet what one of them meets
-window_meets : (w : Window) (seg : Seg) (box other : Window) → IsWindowOf seg box → IsWindowOf seg other → HasCommonPoint box w → HasCommonPoint other w
-window_meets w seg box other least least' h = record { point = h.point; here = within_holds box other h.point (least.least other least'.holds) h.here; there = h.there }
+window_meets :
+    (w : Window) (seg : Seg) (box other : Window) → IsWindowOf seg box → IsWindowOf seg other → HasCommonPoint box w
+    → HasCommonPoint other w
+window_meets w seg box other least least' h =
+    record { point = h.point; here = within_holds box other h.point (least.least other least'.holds) h.here; there = h.there }
 
 -- an item of a leaf that meets is the place of a segment that does
-item_meets : (w : Window) (segs : List Seg) (rows : List BoxRow) → AreLeavesOf segs rows → (item : ℕ) → IsItemIn w rows item → MeetsAtPlace w segs item
+item_meets :
+    (w : Window) (segs : List Seg) (rows : List BoxRow) → AreLeavesOf segs rows → (item : ℕ) → IsItemIn w rows item
+    → MeetsAtPlace w segs item
 item_meets w segs rows leaves item is =
     let leaf = leaves.each is.place is.row is.is_leaf is.is_row in
     record {
@@ -26,7 +31,9 @@ item_meets w segs rows leaves item is =
     }
 
 -- and the other way round
-place_meets : (w : Window) (segs : List Seg) (rows : List BoxRow) → AreLeavesOf segs rows → (place : ℕ) → MeetsAtPlace w segs place → IsItemIn w rows place
+place_meets :
+    (w : Window) (segs : List Seg) (rows : List BoxRow) → AreLeavesOf segs rows → (place : ℕ) → MeetsAtPlace w segs place
+    → IsItemIn w rows place
 place_meets w segs rows leaves place meets =
     let some = leaves.whole place (slice_get_within segs place meets.seg meets.seg_is) in
     let leaf = leaves.each some.place some.row some.is_leaf some.is_row in
@@ -38,11 +45,15 @@ place_meets w segs rows leaves place meets =
       is_leaf = some.is_leaf;
       is_row = some.is_row;
       is_item = some.is_item;
-      common = window_meets w meets.seg meets.meets.box some.row.window meets.meets.least (subst (λ (seg : Seg). IsWindowOf seg some.row.window) (sym same) leaf.least) meets.meets.common;
+      common =
+          window_meets w meets.seg meets.meets.box some.row.window meets.meets.least
+          (subst (λ (seg : Seg). IsWindowOf seg some.row.window) (sym same) leaf.least) meets.meets.common;
     }
 
 -- the items of a walk are the places
-pub places_from_items : (w : Window) (segs : List Seg) (rows : List BoxRow) (items : List ℕ) → AreLeavesOf segs rows → AreItemsIn w rows items → ArePlacesIn w segs items
+pub places_from_items :
+    (w : Window) (segs : List Seg) (rows : List BoxRow) (items : List ℕ) → AreLeavesOf segs rows → AreItemsIn w rows items
+    → ArePlacesIn w segs items
 places_from_items w segs rows items leaves found = record {
   ascending = found.ascending;
   meet = All-weaker (IsItemIn w rows) (MeetsAtPlace w segs) (item_meets w segs rows leaves) items found.meet;

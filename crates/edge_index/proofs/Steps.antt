@@ -10,7 +10,9 @@ use Rattle.edge_index.proofs.Visits.Visit.{apart, leaf, inner}
 -- what a walk visits after the subtree of a place: the items that it finds there, and the number of its looks
 pub data Rest (v : View) : ℕ → List ℕ → ℕ → Type 0 where
   finished : Rest v 0 [] 0
-  beside : (place parent : ℕ) (items others : List ℕ) (looks more : ℕ) → place ≡ 2 * parent + 1 → Visit v (place + 1) items looks → Rest v parent others more → Rest v place (items ++ others) (looks + more)
+  beside :
+      (place parent : ℕ) (items others : List ℕ) (looks more : ℕ) → place ≡ 2 * parent + 1 → Visit v (place + 1) items looks
+      → Rest v parent others more → Rest v place (items ++ others) (looks + more)
   above : (place parent : ℕ) (items : List ℕ) (looks : ℕ) → place ≡ 2 * parent + 2 → Rest v parent items looks → Rest v place items looks
 
 -- what is left where the row at a place comes next: its subtree, and what comes after it
@@ -30,7 +32,9 @@ IsLeft v None items looks = (items ≡ []) × (looks ≡ 0)
 IsLeft v (Some place) items looks = Pending v place items looks
 
 -- the rest of a walk begins with the row that follows
-after_rest : (v : View) → {place : ℕ} {next : Option ℕ} → IsAfter place next → {items : List ℕ} {looks : ℕ} → Rest v place items looks → IsLeft v next items looks
+after_rest :
+    (v : View) → {place : ℕ} {next : Option ℕ} → IsAfter place next → {items : List ℕ} {looks : ℕ} → Rest v place items looks
+    → IsLeft v next items looks
 after_rest v root finished = (refl, refl)
 after_rest v root (beside place parent items others looks more e visit rest) = absurd (omega (arith, e))
 after_rest v root (above place parent items looks e rest) = absurd (omega (arith, e))
@@ -93,7 +97,10 @@ out_of v (leaf place within past in') e = cc
 out_of v (inner place items others looks more opened in' l r) e = cc
 
 -- a row that is done with one look: what it holds is found
-one_look : (v : View) (place : ℕ) (next : Option ℕ) (here out : List ℕ) (begin used : ℕ) → IsAfter place next → (walk : IsUnderway v (Some place) out begin used) → (walk.rest.below ≡ here) × (walk.rest.below_looks ≡ 1) → IsUnderway v next (out ++ here) begin (used + 1)
+one_look :
+    (v : View) (place : ℕ) (next : Option ℕ) (here out : List ℕ) (begin used : ℕ) → IsAfter place next
+    → (walk : IsUnderway v (Some place) out begin used) → (walk.rest.below ≡ here) × (walk.rest.below_looks ≡ 1)
+    → IsUnderway v next (out ++ here) begin (used + 1)
 one_look v place next here out begin used follows walk one =
     let p = walk.rest in
     record {
@@ -103,28 +110,40 @@ one_look v place next here out begin used follows walk one =
       items = p.later;
       looks = p.later_looks;
       rest = after_rest v follows p.rest;
-      found = walk.found ∙ ap (λ (xs : List ℕ). out ++ xs) (p.items_are ∙ ap (λ (xs : List ℕ). xs ++ p.later) one.0) ∙ sym (append_assoc out here p.later);
+      found =
+          walk.found ∙ ap (λ (xs : List ℕ). out ++ xs) (p.items_are ∙ ap (λ (xs : List ℕ). xs ++ p.later) one.0)
+          ∙ sym (append_assoc out here p.later);
       steps = omega (arith, walk.steps, p.looks_are, one.1);
     }
 
-pub underway_out : (v : View) (place : ℕ) (next : Option ℕ) (out : List ℕ) (begin used : ℕ) → v.meets place ≡ false → IsAfter place next → IsUnderway v (Some place) out begin used → IsUnderway v next out begin (used + 1)
+pub underway_out :
+    (v : View) (place : ℕ) (next : Option ℕ) (out : List ℕ) (begin used : ℕ) → v.meets place ≡ false → IsAfter place next
+    → IsUnderway v (Some place) out begin used → IsUnderway v next out begin (used + 1)
 underway_out v place next out begin used e follows walk =
     subst (λ (found : List ℕ). IsUnderway v next found begin (used + 1)) (append-nil out)
     (one_look v place next [] out begin used follows walk (out_of v walk.rest.visit e))
 
 -- a leaf that meets is found
-leaf_of : (v : View) {place looks : ℕ} {items : List ℕ} → Visit v place items looks → v.inner ≤ place → v.meets place ≡ true → (items ≡ v.item place ∷ []) × (looks ≡ 1)
+leaf_of :
+    (v : View) {place looks : ℕ} {items : List ℕ} → Visit v place items looks → v.inner ≤ place → v.meets place ≡ true
+    → (items ≡ v.item place ∷ []) × (looks ≡ 1)
 leaf_of v (apart place within out) past e = cc
 leaf_of v (leaf place within past in') past' e = (refl, refl)
 leaf_of v (inner place items others looks more opened in' l r) past e = absurd (omega arith)
 
-pub underway_leaf : (v : View) (place item : ℕ) (next : Option ℕ) (out : List ℕ) (begin used : ℕ) → v.inner ≤ place → v.meets place ≡ true → v.item place ≡ item → IsAfter place next → IsUnderway v (Some place) out begin used → IsUnderway v next (out ++ item ∷ []) begin (used + 1)
+pub underway_leaf :
+    (v : View) (place item : ℕ) (next : Option ℕ) (out : List ℕ) (begin used : ℕ) → v.inner ≤ place → v.meets place ≡ true
+    → v.item place ≡ item → IsAfter place next → IsUnderway v (Some place) out begin used
+    → IsUnderway v next (out ++ item ∷ []) begin (used + 1)
 underway_leaf v place item next out begin used past e is follows walk =
     let one = leaf_of v walk.rest.visit past e in
     one_look v place next (item ∷ []) out begin used follows walk (one.0 ∙ ap (λ (i : ℕ). i ∷ []) is, one.1)
 
 -- an inner row that meets is opened
-opened_of : (v : View) {place looks : ℕ} {items later : List ℕ} {later_looks : ℕ} → Visit v place items looks → place < v.inner → v.meets place ≡ true → Rest v place later later_looks → (more : ℕ) × Pending v (2 * place + 1) (items ++ later) more × (looks + later_looks ≡ 1 + more)
+opened_of :
+    (v : View) {place looks : ℕ} {items later : List ℕ} {later_looks : ℕ} → Visit v place items looks → place < v.inner
+    → v.meets place ≡ true → Rest v place later later_looks
+    → (more : ℕ) × Pending v (2 * place + 1) (items ++ later) more × (looks + later_looks ≡ 1 + more)
 opened_of v (apart place within out) opened e rest = cc
 opened_of v (leaf place within past in') opened e rest = absurd (omega arith)
 opened_of v {later = later} {later_looks = later_looks} (inner place items others looks more opened in' l r) opened' e rest = (
@@ -142,7 +161,9 @@ opened_of v {later = later} {later_looks = later_looks} (inner place items other
   omega arith,
 )
 
-pub underway_inner : (v : View) (place : ℕ) (out : List ℕ) (begin used : ℕ) → place < v.inner → v.meets place ≡ true → IsUnderway v (Some place) out begin used → IsUnderway v (Some (2 * place + 1)) out begin (used + 1)
+pub underway_inner :
+    (v : View) (place : ℕ) (out : List ℕ) (begin used : ℕ) → place < v.inner → v.meets place ≡ true
+    → IsUnderway v (Some place) out begin used → IsUnderway v (Some (2 * place + 1)) out begin (used + 1)
 underway_inner v place out begin used opened e walk =
     let p = walk.rest in
     let below = opened_of v p.visit opened e p.rest in
@@ -159,8 +180,11 @@ underway_inner v place out begin used opened e walk =
 
 -- the end
 pub underway_end : (v : View) (out : List ℕ) (begin used : ℕ) → IsUnderway v None out begin used → (total : ℕ) × Visit v 0 out total
-underway_end v out begin used walk =
-    (walk.total, subst (λ (xs : List ℕ). Visit v 0 xs walk.total) (walk.found ∙ ap (λ (xs : List ℕ). out ++ xs) walk.rest.0 ∙ append-nil out) walk.whole)
+underway_end v out begin used walk = (
+  walk.total,
+  subst (λ (xs : List ℕ). Visit v 0 xs walk.total)
+      (walk.found ∙ ap (λ (xs : List ℕ). out ++ xs) walk.rest.0 ∙ append-nil out) walk.whole,
+)
 
 -- a row that comes next is one of the tree, and the look at it is one of those left
 place_of : (v : View) {place looks : ℕ} {items : List ℕ} → Visit v place items looks → (place < 2 * v.inner + 1) × (1 ≤ looks)
@@ -168,7 +192,9 @@ place_of v (apart place within out) = (within, omega arith)
 place_of v (leaf place within past in') = (within, omega arith)
 place_of v (inner place items others looks more opened in' l r) = (omega arith, omega arith)
 
-pub underway_next : (v : View) (place : ℕ) (out : List ℕ) (begin used : ℕ) (walk : IsUnderway v (Some place) out begin used) → (place < 2 * v.inner + 1) × (used + 1 ≤ begin + walk.total)
+pub underway_next :
+    (v : View) (place : ℕ) (out : List ℕ) (begin used : ℕ) (walk : IsUnderway v (Some place) out begin used)
+    → (place < 2 * v.inner + 1) × (used + 1 ≤ begin + walk.total)
 underway_next v place out begin used walk =
     let p = walk.rest in
     let h = place_of v p.visit in

@@ -25,13 +25,16 @@ pub record IsTurn (w : Window) (rows : List BoxRow) (place begin used : ℕ) : T
   pub left : used + 1 ≤ begin + (2 * inner_meeting w rows + 1)
   pub room : used < begin + 2097152
 
-pub turn_of : (w : Window) (rows : List BoxRow) → IsBoxTree rows → 0 < length rows → (place : ℕ) (out : List ℕ) (begin used : ℕ) → IsUnderway (view_of w rows) (Some place) out begin used → IsTurn w rows place begin used
+pub turn_of :
+    (w : Window) (rows : List BoxRow) → IsBoxTree rows → 0 < length rows → (place : ℕ) (out : List ℕ) (begin used : ℕ)
+    → IsUnderway (view_of w rows) (Some place) out begin used → IsTurn w rows place begin used
 turn_of w rows box some place out begin used walk =
     let tree = tree_of rows box some in
     let count = inner_leaves tree.0 rows tree.1 in
     let next = underway_next (view_of w rows) place out begin used walk in
     let looks = walk_looks w tree.0 rows tree.1 walk.all walk.total walk.whole in
-    let met : inner_meeting w rows ≤ length (take (inner_count rows) rows) = count_by-le-length (λ (row : BoxRow). have_common_point row.window w) (take (inner_count rows) rows) in
+    let met : inner_meeting w rows ≤ length (take (inner_count rows) rows) = count_by-le-length
+    (λ (row : BoxRow). have_common_point row.window w) (take (inner_count rows) rows) in
     let inner = length-take-le (inner_count rows) rows (omega arith) in
     record {
       within = omega (arith, next.0);
@@ -41,7 +44,9 @@ turn_of w rows box some place out begin used walk =
     }
 
 -- the test of the row that was looked at is that of the walk's view
-pub meets_is : (w : Window) (rows : List BoxRow) (place : ℕ) (row : BoxRow) (b : Bool) → IsRowAt rows place row → (IsTrue b ↔ HasCommonPoint row.window w) → (view_of w rows).meets place ≡ b
+pub meets_is :
+    (w : Window) (rows : List BoxRow) (place : ℕ) (row : BoxRow) (b : Bool) → IsRowAt rows place row
+    → (IsTrue b ↔ HasCommonPoint row.window w) → (view_of w rows).meets place ≡ b
 meets_is w rows place row b at common =
     let same : row_in rows place ≡ row = get_or_from_slice_get rows place row _ at in
     ap (λ (r : BoxRow). have_common_point r.window w) same ∙ by_value b common

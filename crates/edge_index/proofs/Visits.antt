@@ -1,5 +1,6 @@
 -- What a walk finds, and how often it looks, subtree by subtree.
-use Rattle.std.proofs.Common.{◌≡◌, ℕ, zero, suc, ◌+◌, ◌*◌, ◌<◌, ◌≤◌, ◌⊎◌, inl, inr, Bool, true, false, ◌&&◌, cond, List, [], ◌∷◌, ◌++◌, map, refl, sym, ◌∙◌, ap, ap₂, arith}
+use Rattle.std.proofs.Common.{◌≡◌, ℕ, zero, suc, ◌+◌, ◌*◌, ◌<◌, ◌≤◌, ◌⊎◌, inl, inr, Bool, true, false, ◌&&◌, cond, List, [], ◌∷◌, ◌++◌, map}
+use Rattle.std.proofs.Common.{refl, sym, ◌∙◌, ap, ap₂, arith}
 use Rattle.std.specs.Prelude.{nat_lt, nat_le, count_by}
 use Rattle.std.specs.List.{filter}
 use Rattle.std.proofs.lemmas.Bool.{cases_lt}
@@ -31,7 +32,9 @@ IsPruned v = (place : ℕ) → place < v.inner → v.meets place ≡ false → (
 pub data Visit (v : View) : ℕ → List ℕ → ℕ → Type 0 where
   apart : (place : ℕ) → place < 2 * v.inner + 1 → v.meets place ≡ false → Visit v place [] 1
   leaf : (place : ℕ) → place < 2 * v.inner + 1 → v.inner ≤ place → v.meets place ≡ true → Visit v place (v.item place ∷ []) 1
-  inner : (place : ℕ) (items others : List ℕ) (looks more : ℕ) → place < v.inner → v.meets place ≡ true → Visit v (2 * place + 1) items looks → Visit v (2 * place + 2) others more → Visit v place (items ++ others) (1 + (looks + more))
+  inner :
+      (place : ℕ) (items others : List ℕ) (looks more : ℕ) → place < v.inner → v.meets place ≡ true → Visit v (2 * place + 1) items looks
+      → Visit v (2 * place + 2) others more → Visit v place (items ++ others) (1 + (looks + more))
 
 -- each row of the tree has a visit
 pub record Visited (v : View) (place : ℕ) : Type 0 where
@@ -42,15 +45,23 @@ pub record Visited (v : View) (place : ℕ) : Type 0 where
 pub visited : (v : View) (room place : ℕ) → 2 * v.inner + 1 ≤ room + place → place < 2 * v.inner + 1 → Visited v place
 visited v zero place h within = absurd (omega arith)
 visited v (suc room) place h within = by_case (v.meets place) refl (cases_lt place v.inner)
-    (λ (below : place < v.inner). visited v room (2 * place + 1) (omega arith) (omega arith)) (λ (below : place < v.inner). visited v room (2 * place + 2) (omega arith) (omega arith))
+    (λ (below : place < v.inner). visited v room (2 * place + 1) (omega arith) (omega arith))
+    (λ (below : place < v.inner). visited v room (2 * place + 2) (omega arith) (omega arith))
   where
-    by_case : (b : Bool) → v.meets place ≡ b → (place < v.inner) ⊎ (v.inner ≤ place) → (place < v.inner → Visited v (2 * place + 1)) → (place < v.inner → Visited v (2 * place + 2)) → Visited v place
+    by_case :
+        (b : Bool) → v.meets place ≡ b → (place < v.inner) ⊎ (v.inner ≤ place) → (place < v.inner → Visited v (2 * place + 1))
+        → (place < v.inner → Visited v (2 * place + 2)) → Visited v place
     by_case false e side to_left to_right = record { items = []; looks = 1; visit = apart place within e }
     by_case true e (inr past) to_left to_right = record { items = v.item place ∷ []; looks = 1; visit = leaf place within past e }
     by_case true e (inl below) to_left to_right =
         let l = to_left below in
         let r = to_right below in
-        record { items = l.items ++ r.items; looks = 1 + (l.looks + r.looks); visit = inner place l.items r.items l.looks r.looks below e l.visit r.visit }
+        record {
+          items = l.items
+              ++ r.items;
+          looks = 1 + (l.looks + r.looks);
+          visit = inner place l.items r.items l.looks r.looks below e l.visit r.visit;
+        }
 
 -- a filter at the first element
 filter_keeps : (test : ℕ → Bool) (x : ℕ) (xs : List ℕ) → test x ≡ true → filter test (x ∷ xs) ≡ x ∷ filter test xs
@@ -73,28 +84,42 @@ opened_inner : (v : View) (place : ℕ) → place < v.inner → v.meets place �
 opened_inner v place opened e = grind (arith, nat_tests)
 
 -- a subtree whose root doesn't meet has no leaf that does
-nothing_below : (v : View) → IsPruned v → {place : ℕ} {places : List ℕ} → Subtree (2 * v.inner + 1) place places → v.meets place ≡ false → filter (is_found v) places ≡ []
+nothing_below :
+    (v : View) → IsPruned v → {place : ℕ} {places : List ℕ} → Subtree (2 * v.inner + 1) place places → v.meets place ≡ false
+    → filter (is_found v) places ≡ []
 nothing_below v pruned (none place past) out = refl
 nothing_below v pruned (some place below beside within l r) out =
-    filter_skips (is_found v) place (below ++ beside) (not_found_out v place out) ∙ filter-append (is_found v) below beside ∙ by_case (cases_lt place v.inner) (nothing_below v pruned l) (nothing_below v pruned r)
+    filter_skips (is_found v) place (below ++ beside) (not_found_out v place out) ∙ filter-append (is_found v) below beside
+    ∙ by_case (cases_lt place v.inner) (nothing_below v pruned l) (nothing_below v pruned r)
   where
-    by_case : (place < v.inner) ⊎ (v.inner ≤ place) → (v.meets (2 * place + 1) ≡ false → filter (is_found v) below ≡ []) → (v.meets (2 * place + 2) ≡ false → filter (is_found v) beside ≡ []) → filter (is_found v) below ++ filter (is_found v) beside ≡ []
+    by_case :
+        (place < v.inner) ⊎ (v.inner ≤ place) → (v.meets (2 * place + 1) ≡ false → filter (is_found v) below ≡ [])
+        → (v.meets (2 * place + 2) ≡ false → filter (is_found v) beside ≡ []) → filter (is_found v) below ++ filter (is_found v) beside ≡ []
     by_case (inl opened) left right = let out' = pruned place opened out in ap₂ (λ (xs ys : List ℕ). xs ++ ys) (left out'.0) (right out'.1)
-    by_case (inr past) left right = ap₂ (λ (xs ys : List ℕ). xs ++ ys) (ap (filter (is_found v)) (subtree_past l (omega arith))) (ap (filter (is_found v)) (subtree_past r (omega arith)))
+    by_case (inr past) left right =
+        ap₂ (λ (xs ys : List ℕ). xs ++ ys) (ap (filter (is_found v)) (subtree_past l (omega arith)))
+        (ap (filter (is_found v)) (subtree_past r (omega arith)))
 
-pub visit_items : (v : View) → IsPruned v → {place looks : ℕ} {items places : List ℕ} → Visit v place items looks → Subtree (2 * v.inner + 1) place places → items ≡ map v.item (filter (is_found v) places)
+pub visit_items :
+    (v : View) → IsPruned v → {place looks : ℕ} {items places : List ℕ} → Visit v place items looks → Subtree (2 * v.inner + 1) place places
+    → items ≡ map v.item (filter (is_found v) places)
 visit_items v pruned (apart place within out) tree = sym (ap (map v.item) (nothing_below v pruned tree out))
 visit_items v pruned (leaf place within past in') (none place' end) = absurd (omega arith)
 visit_items v pruned (leaf place within past in') (some place' below beside within' l r) =
     let nothing : below ++ beside ≡ [] = ap₂ (λ (xs ys : List ℕ). xs ++ ys) (subtree_past l (omega arith)) (subtree_past r (omega arith)) in
-    sym (ap (map v.item) (filter_keeps (is_found v) place (below ++ beside) (found_leaf v place past in') ∙ ap (λ (xs : List ℕ). place ∷ filter (is_found v) xs) nothing))
+    sym (ap (map v.item)
+    (filter_keeps (is_found v) place (below ++ beside) (found_leaf v place past in')
+    ∙ ap (λ (xs : List ℕ). place ∷ filter (is_found v) xs) nothing))
 visit_items v pruned (inner place items others looks more below in' l r) (none place' end) = absurd (omega arith)
 visit_items v pruned (inner place items others looks more opened in' l r) (some place' below beside within' l' r') =
     let both = ap₂ (λ (xs ys : List ℕ). xs ++ ys) (visit_items v pruned l l') (visit_items v pruned r r') in
-    let parts = filter_skips (is_found v) place (below ++ beside) (not_found_inner v place opened) ∙ filter-append (is_found v) below beside in
+    let parts = filter_skips (is_found v) place (below ++ beside) (not_found_inner v place opened)
+    ∙ filter-append (is_found v) below beside in
     both ∙ sym (ap (map v.item) parts ∙ map-append v.item (filter (is_found v) below) (filter (is_found v) beside))
 
-pub visit_looks : (v : View) → {place looks : ℕ} {items places : List ℕ} → Visit v place items looks → Subtree (2 * v.inner + 1) place places → looks ≤ 2 * count_by (is_opened v) places + 1
+pub visit_looks :
+    (v : View) → {place looks : ℕ} {items places : List ℕ} → Visit v place items looks → Subtree (2 * v.inner + 1) place places
+    → looks ≤ 2 * count_by (is_opened v) places + 1
 visit_looks v (apart place within out) tree = omega arith
 visit_looks v (leaf place within past in') tree = omega arith
 visit_looks v (inner place items others looks more opened in' l r) (none place' end) = absurd (omega arith)

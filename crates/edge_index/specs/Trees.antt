@@ -1,5 +1,6 @@
 -- A tree of boxes, kept as a list of rows: first the inner rows, then the leaves.
-use Rattle.std.specs.Prelude.{◌≡◌, ℕ, ◌+◌, ◌-◌, ◌*◌, ◌/◌, ◌<◌, ◌≤◌, ◌⊎◌, Bool, ◌&&◌, List, [], length, take, slice_get, Some, All, Contains, count_by, int_le}
+use Rattle.std.specs.Prelude.{◌≡◌, ℕ, ◌+◌, ◌-◌, ◌*◌, ◌/◌, ◌<◌, ◌≤◌, ◌⊎◌, Bool, ◌&&◌, List, [], length, take, slice_get, Some, All, Contains}
+use Rattle.std.specs.Prelude.{count_by, int_le}
 use Rattle.std.specs.Int.{int_max, int_min}
 use Rattle.std.specs.List.Sorted.{IsStrictlyIncreasing}
 use Rattle.plane_laws.specs.Plane.{Point}
@@ -21,8 +22,12 @@ pub record IsTreeOf (leaves : ℕ) (rows : List BoxRow) : Type 0 where
   pub some : 1 ≤ leaves
   pub most : leaves ≤ 1048576
   pub count : length rows ≡ 2 * leaves - 1
-  pub least : (place : ℕ) (row left right : BoxRow) → place < leaves - 1 → IsRowAt rows place row → IsRowAt rows (2 * place + 1) left → IsRowAt rows (2 * place + 2) right → IsLeastWindow (IsInEither left.window right.window) row.window
-  pub different : (place other : ℕ) (row twin : BoxRow) → leaves - 1 ≤ place → leaves - 1 ≤ other → IsRowAt rows place row → IsRowAt rows other twin → row.item ≡ twin.item → place ≡ other
+  pub least :
+      (place : ℕ) (row left right : BoxRow) → place < leaves - 1 → IsRowAt rows place row → IsRowAt rows (2 * place + 1) left
+      → IsRowAt rows (2 * place + 2) right → IsLeastWindow (IsInEither left.window right.window) row.window
+  pub different :
+      (place other : ℕ) (row twin : BoxRow) → leaves - 1 ≤ place → leaves - 1 ≤ other → IsRowAt rows place row → IsRowAt rows other twin
+      → row.item ≡ twin.item → place ≡ other
 
 -- A list of rows without any row, or with a tree of 1 to 1,048,576 leaves.
 abbrev pub IsBoxTree : List BoxRow → Type 0
@@ -34,7 +39,9 @@ inner_count rows = length rows / 2
 
 -- Two boxes have a common point, computed: the greater low side isn't beyond the lesser high side, across and above.
 abbrev pub have_common_point : Window → Window → Bool
-have_common_point box other = int_le (int_max box.low_x other.low_x) (int_min box.high_x other.high_x) && int_le (int_max box.low_y other.low_y) (int_min box.high_y other.high_y)
+have_common_point box other =
+    int_le (int_max box.low_x other.low_x) (int_min box.high_x other.high_x) && int_le (int_max box.low_y other.low_y)
+    (int_min box.high_y other.high_y)
 
 -- How many inner rows have a window that meets w.
 abbrev pub inner_meeting : Window → List BoxRow → ℕ

@@ -24,7 +24,8 @@ ghost use Rattle.point_set.specs.declared.rule.Rule.{Rule};
 pub fn law_finitely_many_points_have_no_extent()
     ensures no_segment { (positions : List Pt) → ¬ HoldsSegment (λ p. is_at_some p positions ≡ true) }
     ensures no_triangle { (positions : List Pt) → ¬ HoldsTriangle (λ p. is_at_some p positions ≡ true) }
-    ensures point_left { (positions : List Pt) (a b : Point) → ¬ IsSamePoint a b → (p : Point) × IsOnSegment a b p × (is_at_some p positions ≡ false) }
+    ensures point_left { (positions : List Pt) (a b : Point) → ¬ IsSamePoint a b
+        → (p : Point) × IsOnSegment a b p × (is_at_some p positions ≡ false) }
     ensures triangle_left { (positions : List Pt) → HoldsTriangle (λ p. is_at_some p positions ≡ false) }
 {}
 
@@ -52,7 +53,8 @@ pub fn law_cover_is_of_points()
 /// The kind of a point's location in a figure, and so the part in which it lies, is said of the point.
 pub fn law_kind_is_of_points()
     ensures kind { (f : Figure) (rule : Rule) (p q : Point) (k : DimLoc) → IsSamePoint p q → IsKind f rule p k → IsKind f rule q k }
-    ensures part { (f : Figure) (rule : Rule) (p q : Point) (part : Loc) → IsSamePoint p q → IsLocation f rule p part → IsLocation f rule q part }
+    ensures part { (f : Figure) (rule : Rule) (p q : Point) (part : Loc) → IsSamePoint p q → IsLocation f rule p part
+        → IsLocation f rule q part }
 {}
 
 /// The six kinds of location exclude each other, and so a point lies in one part of a figure.
@@ -63,11 +65,13 @@ pub fn law_kinds_exclude_each_other()
 
 /// In a figure without areas the kind of every point is decided: one of the four kinds that need no area holds.
 pub fn law_lines_and_points_decide()
-    ensures decided { (f : Figure) (rule : Rule) (p : Point) → f.areas ≡ [] → IsKind f rule p LineInterior ⊎ (IsKind f rule p LineBoundary ⊎ (IsKind f rule p PointInterior ⊎ IsKind f rule p Exterior)) }
+    ensures decided { (f : Figure) (rule : Rule) (p : Point) → f.areas ≡ []
+        → IsKind f rule p LineInterior ⊎ (IsKind f rule p LineBoundary ⊎ (IsKind f rule p PointInterior ⊎ IsKind f rule p Exterior)) }
 {}
 
 /// A set of points has at most one dimension; so two figures have at most one matrix.
 pub fn law_a_pair_has_one_matrix()
-    ensures cell { (a b : Figure) (rule : Rule) (c : Cell) (d e : Dim) → IsDimension (IsInCell a b rule c) d → IsDimension (IsInCell a b rule c) e → d ≡ e }
+    ensures cell { (a b : Figure) (rule : Rule) (c : Cell) (d e : Dim) → IsDimension (IsInCell a b rule c) d
+        → IsDimension (IsInCell a b rule c) e → d ≡ e }
     ensures matrix { (a b : Figure) (rule : Rule) (m n : Matrix) → IsMatrixOf a b rule m → IsMatrixOf a b rule n → m ≡ n }
 {}

@@ -2,7 +2,8 @@ ghost use Rattle.std.specs.Prelude.{◌≡◌, ◌<◌, ◌≤◌, ◌^◌, fals
 ghost use Rattle.geosop_io.specs.Calls.{IsNextFailing};
 ghost use Rattle.geosop_io.specs.Inputs.{HasRead};
 ghost use Rattle.geosop_io.specs.PerSide.{on_side};
-ghost use Rattle.geosop_io.specs.MemInputs.{is_started, seen_of, bytes_left, StartFails, after_start, after_failed_start, next_given, after_giving, after_read, after_failed_read};
+ghost use Rattle.geosop_io.specs.MemInputs.{is_started, seen_of, bytes_left, StartFails, after_start, after_failed_start, next_given};
+ghost use Rattle.geosop_io.specs.MemInputs.{after_giving, after_read, after_failed_read};
 
 use crate::calls::Calls;
 use crate::inputs::{Inputs, is_end};

@@ -24,7 +24,11 @@ ghost use Rattle.point_set.specs.Validity.{IsAtPlace};
 /// same along all directions. So it is the same along all directions of one sector of the rays of the area's edges at v,
 /// among which other rays may stand.
 pub fn law_germ_is_the_same_in_a_sector()
-    ensures same { (area : Area) → IsAreaShaped area → (v : Point) (r s : Direction) → HasNoEdgeWithin area v r s → (d e : Direction) → IsStrictlyWithin r s d → IsStrictlyWithin r s e → (g h : Loc) → IsGerm area v d g → IsGerm area v e h → g ≡ h }
-    ensures bare { (area : Area) → IsAreaShaped area → (v : Point) → is_on_edges v (edges_of_rings (rings_of area)) ≡ false → (d e : Direction) (g h : Loc) → IsGerm area v d g → IsGerm area v e h → g ≡ h }
-    ensures sector { (area : Area) → IsAreaShaped area → (v : Point) (rays : List Dir) → AreRaysAt v (edges_of_rings (rings_of area)) rays → (i : ℕ) (d e : Direction) → IsInSector rays i d → IsInSector rays i e → (g h : Loc) → IsGerm area v d g → IsGerm area v e h → g ≡ h }
+    ensures same { (area : Area) → IsAreaShaped area → (v : Point) (r s : Direction) → HasNoEdgeWithin area v r s → (d e : Direction)
+        → IsStrictlyWithin r s d → IsStrictlyWithin r s e → (g h : Loc) → IsGerm area v d g → IsGerm area v e h → g ≡ h }
+    ensures bare { (area : Area) → IsAreaShaped area → (v : Point) → is_on_edges v (edges_of_rings (rings_of area)) ≡ false
+        → (d e : Direction) (g h : Loc) → IsGerm area v d g → IsGerm area v e h → g ≡ h }
+    ensures sector { (area : Area) → IsAreaShaped area → (v : Point) (rays : List Dir) → AreRaysAt v (edges_of_rings (rings_of area)) rays
+        → (i : ℕ) (d e : Direction) → IsInSector rays i d → IsInSector rays i e → (g h : Loc) → IsGerm area v d g → IsGerm area v e h
+        → g ≡ h }
 {}

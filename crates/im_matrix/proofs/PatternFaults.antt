@@ -1,5 +1,6 @@
 -- A text is a pattern or has one fault, at one place.
-use Rattle.std.proofs.Common.{◌≡◌, ℕ, ◌<◌, ◌↔◌, sym, true, Result, Ok, Err, IfOk, IfErr, List, [], ◌∷◌, length, zero, suc, refl, ap, subst, inl, inr, arith}
+use Rattle.std.proofs.Common.{◌≡◌, ℕ, ◌<◌, ◌↔◌, sym, true, Result, Ok, Err, IfOk, IfErr, List, [], ◌∷◌, length, zero, suc, refl, ap, subst}
+use Rattle.std.proofs.Common.{inl, inr, arith}
 use Rattle.std.specs.Prelude.{slice_get, map}
 use Rattle.im_matrix.specs.declared.patterns.Mark.{Mark}
 use Rattle.im_matrix.specs.declared.patterns.Mark.TheVariants.{Present, Absent, Any, Points, Lines, Areas}

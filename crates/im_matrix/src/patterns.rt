@@ -1,7 +1,8 @@
 // Patterns of nine characters over the cells of a matrix.
 
 ghost use Rattle.std.specs.Prelude.{◌≡◌, ◌+◌, ◌<◌, ◌≤◌, ℕ, true, false, ◌↔◌, IfOk, IfErr, OnOk, MatchOption, slice_get};
-ghost use Rattle.im_matrix.specs.Patterns.{accepts, range_of, text_matches, mark_character, mark_at, pattern_text, is_right, HasRowAt, RightBelow, HasFaultAt};
+ghost use Rattle.im_matrix.specs.Patterns.{accepts, range_of, text_matches, mark_character, mark_at, pattern_text, is_right, HasRowAt};
+ghost use Rattle.im_matrix.specs.Patterns.{RightBelow, HasFaultAt};
 
 use crate::parts::Parts;
 use crate::{Cell, Dim, Matrix};

@@ -36,7 +36,8 @@ module _ {K : Type 0} (bytes : K → List ℕ) where
 
   -- ---- a key put in
   -- the lines before are among those after
-  kept_among : (line : List ℕ) (keys : List K) (key : K) → Contains (map bytes keys) line → Contains (map bytes (insert_key order keys key)) line
+  kept_among :
+      (line : List ℕ) (keys : List K) (key : K) → Contains (map bytes keys) line → Contains (map bytes (insert_key order keys key)) line
   kept_among line [] key h = contains_later (bytes key) line [] h
   kept_among line (first ∷ others) key h =
       go (order key first) (contains_cases (bytes first) line (map bytes others) h) (kept_among line others key)
@@ -55,7 +56,8 @@ module _ {K : Type 0} (bytes : K → List ℕ) where
   put_among (first ∷ others) key = go (order key first) refl (put_among others key)
     where
       go : (o : Ordering) → order key first ≡ o → Contains (map bytes (insert_key order others key)) (bytes key)
-          → Contains (map bytes (match_ordering o (key ∷ first ∷ others) (first ∷ others) (first ∷ insert_key order others key))) (bytes key)
+          → Contains (map bytes (match_ordering o (key ∷ first ∷ others) (first ∷ others) (first ∷ insert_key order others key)))
+          (bytes key)
       go Less is put = contains_first (bytes key) (bytes key) (map bytes (first ∷ others)) refl
       go Equal is put = contains_first (bytes first) (bytes key) (map bytes others) (sym (exact_bytes (bytes key) (bytes first) is))
       go Greater is put = contains_later (bytes first) (bytes key) (map bytes (insert_key order others key)) put
@@ -74,12 +76,14 @@ module _ {K : Type 0} (bytes : K → List ℕ) where
   -- ---- the loop's steps
   -- one more line is seen
   pub one_more : (lines seen : List (List ℕ)) (keys : List K) (key : K) → Contains lines (bytes key)
-      → IsStrictlySortedBy order (insert_key order keys key) → AreDistinctSoFar lines seen keys → AreDistinctSoFar lines (seen ++ bytes key ∷ []) (insert_key order keys key)
+      → IsStrictlySortedBy order (insert_key order keys key) → AreDistinctSoFar lines seen keys
+      → AreDistinctSoFar lines (seen ++ bytes key ∷ []) (insert_key order keys key)
   one_more lines seen keys key there sorted h = record {
     ascending = sorted;
     none_else = All-insert_key order key (λ other. Contains lines (bytes other)) keys h.none_else there;
     none_left = All-push (Contains (map bytes (insert_key order keys key))) seen (bytes key)
-        (All-weaker (Contains (map bytes keys)) (Contains (map bytes (insert_key order keys key))) (λ line. kept_among line keys key) seen h.none_left)
+        (All-weaker (Contains (map bytes keys)) (Contains (map bytes (insert_key order keys key)))
+        (λ line. kept_among line keys key) seen h.none_left)
         (put_among keys key);
   }
 

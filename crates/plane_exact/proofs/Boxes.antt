@@ -17,20 +17,28 @@ use Rattle.plane_exact.specs.declared.point.Pt.{Pt}
 use Rattle.plane_exact.specs.declared.window.Window.{Window}
 
 -- a mix of numbers that are at least m is at least m, and likewise at most
-mix_at_least : (m a b s t k x w : ℤ) → pos 0 ≤ℤ s → pos 0 ≤ℤ t → pos 0 <ℤ k → k *ℤ x ≡ s *ℤ a +ℤ t *ℤ b → k *ℤ w ≡ s *ℤ pos 1 +ℤ t *ℤ pos 1 → m ≤ℤ a → m ≤ℤ b → (m *ℤ w) ≤ℤ x
+mix_at_least :
+    (m a b s t k x w : ℤ) → pos 0 ≤ℤ s → pos 0 ≤ℤ t → pos 0 <ℤ k → k *ℤ x ≡ s *ℤ a +ℤ t *ℤ b → k *ℤ w ≡ s *ℤ pos 1 +ℤ t *ℤ pos 1 → m ≤ℤ a
+    → m ≤ℤ b → (m *ℤ w) ≤ℤ x
 mix_at_least m a b s t k x w hs ht hk ex ew ha hb =
     let weight : k *ℤ (m *ℤ w) ≡ m *ℤ (k *ℤ w) = identity (var 0 ⊗ (var 1 ⊗ var 2)) (var 1 ⊗ (var 0 ⊗ var 2)) (k ∷ m ∷ w ∷ []) refl in
-    let parts : m *ℤ (s *ℤ pos 1 +ℤ t *ℤ pos 1) ≡ s *ℤ m +ℤ t *ℤ m = identity (var 0 ⊗ (var 1 ⊗ num (pos 1) ⊕ var 2 ⊗ num (pos 1))) (var 1 ⊗ var 0 ⊕ var 2 ⊗ var 0) (m ∷ s ∷ t ∷ []) refl in
+    let parts : m *ℤ (s *ℤ pos 1 +ℤ t *ℤ pos 1) ≡ s *ℤ m +ℤ t *ℤ m = identity (var 0 ⊗ (var 1 ⊗ num (pos 1) ⊕ var 2 ⊗ num (pos 1)))
+    (var 1 ⊗ var 0 ⊕ var 2 ⊗ var 0) (m ∷ s ∷ t ∷ []) refl in
     cancel_≤ℤ k (m *ℤ w) x hk (omega (arith, linear, weight, ap (λ z. m *ℤ z) ew, parts, ex, scale_≤ℤ hs ha, scale_≤ℤ ht hb))
 
-mix_at_most : (m a b s t k x w : ℤ) → pos 0 ≤ℤ s → pos 0 ≤ℤ t → pos 0 <ℤ k → k *ℤ x ≡ s *ℤ a +ℤ t *ℤ b → k *ℤ w ≡ s *ℤ pos 1 +ℤ t *ℤ pos 1 → a ≤ℤ m → b ≤ℤ m → x ≤ℤ (m *ℤ w)
+mix_at_most :
+    (m a b s t k x w : ℤ) → pos 0 ≤ℤ s → pos 0 ≤ℤ t → pos 0 <ℤ k → k *ℤ x ≡ s *ℤ a +ℤ t *ℤ b → k *ℤ w ≡ s *ℤ pos 1 +ℤ t *ℤ pos 1 → a ≤ℤ m
+    → b ≤ℤ m → x ≤ℤ (m *ℤ w)
 mix_at_most m a b s t k x w hs ht hk ex ew ha hb =
     let weight : k *ℤ (m *ℤ w) ≡ m *ℤ (k *ℤ w) = identity (var 0 ⊗ (var 1 ⊗ var 2)) (var 1 ⊗ (var 0 ⊗ var 2)) (k ∷ m ∷ w ∷ []) refl in
-    let parts : m *ℤ (s *ℤ pos 1 +ℤ t *ℤ pos 1) ≡ s *ℤ m +ℤ t *ℤ m = identity (var 0 ⊗ (var 1 ⊗ num (pos 1) ⊕ var 2 ⊗ num (pos 1))) (var 1 ⊗ var 0 ⊕ var 2 ⊗ var 0) (m ∷ s ∷ t ∷ []) refl in
+    let parts : m *ℤ (s *ℤ pos 1 +ℤ t *ℤ pos 1) ≡ s *ℤ m +ℤ t *ℤ m = identity (var 0 ⊗ (var 1 ⊗ num (pos 1) ⊕ var 2 ⊗ num (pos 1)))
+    (var 1 ⊗ var 0 ⊕ var 2 ⊗ var 0) (m ∷ s ∷ t ∷ []) refl in
     cancel_≤ℤ k x (m *ℤ w) hk (omega (arith, linear, weight, ap (λ z. m *ℤ z) ew, parts, ex, scale_≤ℤ hs ha, scale_≤ℤ ht hb))
 
 -- a box that holds the ends of a segment holds the segment
-pub in_window-mix : (box : Window) (a b : Pt) (p : Point) → box.low_x ≤ℤ a.x → box.low_x ≤ℤ b.x → a.x ≤ℤ box.high_x → b.x ≤ℤ box.high_x → box.low_y ≤ℤ a.y → box.low_y ≤ℤ b.y → a.y ≤ℤ box.high_y → b.y ≤ℤ box.high_y → IsOnSegment (point_of a) (point_of b) p → IsInWindow box p
+pub in_window-mix :
+    (box : Window) (a b : Pt) (p : Point) → box.low_x ≤ℤ a.x → box.low_x ≤ℤ b.x → a.x ≤ℤ box.high_x → b.x ≤ℤ box.high_x → box.low_y ≤ℤ a.y
+    → box.low_y ≤ℤ b.y → a.y ≤ℤ box.high_y → b.y ≤ℤ box.high_y → IsOnSegment (point_of a) (point_of b) p → IsInWindow box p
 in_window-mix box a b p lxa lxb hxa hxb lya lyb hya hyb on =
     let m = on.mix in
     record {
@@ -41,10 +49,17 @@ in_window-mix box a b p lxa lxb hxa hxb lya lyb hya hyb on =
     }
 
 -- the box of the lesser and the greater coordinates is the least one that holds the segment
-pub least_of_ends : (box : Window) (a b : Pt) → box.low_x ≡ int_min a.x b.x → box.low_y ≡ int_min a.y b.y → box.high_x ≡ int_max a.x b.x → box.high_y ≡ int_max a.y b.y → IsLeastWindow (IsOnSegment (point_of a) (point_of b)) box
+pub least_of_ends :
+    (box : Window) (a b : Pt) → box.low_x ≡ int_min a.x b.x → box.low_y ≡ int_min a.y b.y → box.high_x ≡ int_max a.x b.x
+    → box.high_y ≡ int_max a.y b.y → IsLeastWindow (IsOnSegment (point_of a) (point_of b)) box
 least_of_ends box a b lx ly hx hy = record {
-  holds = λ p on. in_window-mix box a b p (omega (arith, ints, clamps)) (omega (arith, ints, clamps)) (omega (arith, ints, clamps)) (omega (arith, ints, clamps)) (omega (arith, ints, clamps)) (omega (arith, ints, clamps)) (omega (arith, ints, clamps)) (omega (arith, ints, clamps)) on;
-  least = λ other all. tight other (all (point_of a) (start_on_segment (point_of a) (point_of b))) (all (point_of b) (end_on_segment (point_of a) (point_of b)));
+  holds =
+      λ p on. in_window-mix box a b p (omega (arith, ints, clamps)) (omega (arith, ints, clamps)) (omega (arith, ints, clamps))
+      (omega (arith, ints, clamps)) (omega (arith, ints, clamps)) (omega (arith, ints, clamps)) (omega (arith, ints, clamps))
+      (omega (arith, ints, clamps)) on;
+  least =
+      λ other all. tight other (all (point_of a) (start_on_segment (point_of a) (point_of b)))
+      (all (point_of b) (end_on_segment (point_of a) (point_of b)));
 }
   where
     tight : (other : Window) → IsInWindow other (point_of a) → IsInWindow other (point_of b) → IsWithin box other
@@ -56,21 +71,41 @@ least_of_ends box a b lx ly hx hy = record {
     }
 
 -- the greatest low sides and the least high sides are the sides of what two boxes have in common
-pub common_point : (box other : Window) → int_max box.low_x other.low_x ≤ℤ int_min box.high_x other.high_x → int_max box.low_y other.low_y ≤ℤ int_min box.high_y other.high_y → HasCommonPoint box other
+pub common_point :
+    (box other : Window) → int_max box.low_x other.low_x ≤ℤ int_min box.high_x other.high_x
+    → int_max box.low_y other.low_y ≤ℤ int_min box.high_y other.high_y → HasCommonPoint box other
 common_point box other hx hy = record {
   point = point_of corner;
-  here = record { left = omega (arith, ints, clamps); right = omega (arith, ints, clamps, hx); bottom = omega (arith, ints, clamps); top = omega (arith, ints, clamps, hy) };
-  there = record { left = omega (arith, ints, clamps); right = omega (arith, ints, clamps, hx); bottom = omega (arith, ints, clamps); top = omega (arith, ints, clamps, hy) };
+  here =
+      record {
+        left = omega (arith, ints, clamps);
+        right = omega (arith, ints, clamps, hx);
+        bottom = omega
+            (arith, ints, clamps);
+        top = omega (arith, ints, clamps, hy);
+      };
+  there =
+      record {
+        left = omega (arith, ints, clamps);
+        right = omega (arith, ints, clamps, hx);
+        bottom = omega
+            (arith, ints, clamps);
+        top = omega (arith, ints, clamps, hy);
+      };
 }
   where
     corner : Pt
     corner = record { x = int_max box.low_x other.low_x; y = int_max box.low_y other.low_y }
 
 -- with a common point, each low side is at most each high one
-pub low_at_most_high : (box other : Window) → HasCommonPoint box other → (int_max box.low_x other.low_x ≤ℤ int_min box.high_x other.high_x) × (int_max box.low_y other.low_y ≤ℤ int_min box.high_y other.high_y)
+pub low_at_most_high :
+    (box other : Window) → HasCommonPoint box other
+    → (int_max box.low_x other.low_x ≤ℤ int_min box.high_x other.high_x)
+    × (int_max box.low_y other.low_y ≤ℤ int_min box.high_y other.high_y)
 low_at_most_high box other h =
     let w = h.point.w in
-    let between : (low x high : ℤ) → (low *ℤ w) ≤ℤ x → x ≤ℤ (high *ℤ w) → low ≤ℤ high = λ low x high p q. cancel_≤ℤ_right w low high h.point.heavy (≤ℤ_trans p q) in
+    let between : (low x high : ℤ) → (low *ℤ w) ≤ℤ x → x ≤ℤ (high *ℤ w)
+    → low ≤ℤ high = λ low x high p q. cancel_≤ℤ_right w low high h.point.heavy (≤ℤ_trans p q) in
     let a = between box.low_x h.point.x box.high_x h.here.left h.here.right in
     let b = between box.low_x h.point.x other.high_x h.here.left h.there.right in
     let c = between other.low_x h.point.x box.high_x h.there.left h.here.right in
@@ -82,7 +117,9 @@ low_at_most_high box other h =
     (omega (arith, ints, clamps, a, b, c, d), omega (arith, ints, clamps, e, f, g, k))
 
 -- the nearest whole numbers round each coordinate are the sides of the least box that holds the point
-pub least_of_point : (box : Window) (p : Point) → IsRange p.x p.w box.low_x box.high_x → IsRange p.y p.w box.low_y box.high_y → IsLeastWindow (IsSamePoint p) box
+pub least_of_point :
+    (box : Window) (p : Point) → IsRange p.x p.w box.low_x box.high_x → IsRange p.y p.w box.low_y box.high_y
+    → IsLeastWindow (IsSamePoint p) box
 least_of_point box p across above = record { holds = λ q same. held q same; least = λ other all. tight other (all p (same_refl p)) }
   where
     -- a side that bounds p bounds each triple of the same point
@@ -90,13 +127,15 @@ least_of_point box p across above = record { holds = λ q same. held q same; lea
     moved_below m x w u v hw hv e h =
         let vs = m ∷ x ∷ w ∷ u ∷ v ∷ [] in
         at_most_by (var 0 ⊗ var 4) (var 3) vs
-        (λ denied. denied ⊠ positive (var 2) hw ⊞ at_most (var 0 ⊗ var 2) (var 1) h ⊠ positive (var 4) hv ⊞ scaled (num (negsuc 0)) (same (var 1 ⊗ var 4) (var 3 ⊗ var 2) e)) refl
+        (λ denied. denied ⊠ positive (var 2) hw ⊞ at_most (var 0 ⊗ var 2) (var 1) h ⊠ positive (var 4) hv ⊞ scaled (num (negsuc 0))
+        (same (var 1 ⊗ var 4) (var 3 ⊗ var 2) e)) refl
 
     moved_above : (m x w u v : ℤ) → pos 0 <ℤ w → pos 0 <ℤ v → x *ℤ v ≡ u *ℤ w → x ≤ℤ (m *ℤ w) → u ≤ℤ (m *ℤ v)
     moved_above m x w u v hw hv e h =
         let vs = m ∷ x ∷ w ∷ u ∷ v ∷ [] in
         at_most_by (var 3) (var 0 ⊗ var 4) vs
-        (λ denied. denied ⊠ positive (var 2) hw ⊞ at_most (var 1) (var 0 ⊗ var 2) h ⊠ positive (var 4) hv ⊞ same (var 1 ⊗ var 4) (var 3 ⊗ var 2) e) refl
+        (λ denied. denied ⊠ positive (var 2) hw ⊞ at_most (var 1) (var 0 ⊗ var 2) h ⊠ positive (var 4) hv ⊞ same (var 1 ⊗ var 4)
+        (var 3 ⊗ var 2) e) refl
 
     held : (q : Point) → IsSamePoint p q → IsInWindow box q
     held q s = record {

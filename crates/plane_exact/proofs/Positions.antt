@@ -7,16 +7,22 @@ use Rattle.plane_exact.specs.declared.point.Pt.{Pt}
 use Rattle.plane_laws.proofs.Turns.Turns.{turn_p}
 
 -- three positions: the cross product of two ways
-pub turn-positions : (a b c : Pt) → (b.x -ℤ a.x) *ℤ (c.y -ℤ a.y) -ℤ (b.y -ℤ a.y) *ℤ (c.x -ℤ a.x) ≡ turn (point_of a) (point_of b) (point_of c)
+pub turn-positions :
+    (a b c : Pt) → (b.x -ℤ a.x) *ℤ (c.y -ℤ a.y) -ℤ (b.y -ℤ a.y) *ℤ (c.x -ℤ a.x) ≡ turn (point_of a) (point_of b) (point_of c)
 unfolding turn
 turn-positions a b c =
-    identity (((var 2 ⊖ var 0) ⊗ (var 5 ⊖ var 1)) ⊖ ((var 3 ⊖ var 1) ⊗ (var 4 ⊖ var 0))) (turn_p (var 0) (var 1) (num (pos 1)) (var 2) (var 3) (num (pos 1)) (var 4) (var 5) (num (pos 1))) (a.x ∷ a.y ∷ b.x ∷ b.y ∷ c.x ∷ c.y ∷ []) refl
+    identity (((var 2 ⊖ var 0) ⊗ (var 5 ⊖ var 1)) ⊖ ((var 3 ⊖ var 1) ⊗ (var 4 ⊖ var 0)))
+    (turn_p (var 0) (var 1) (num (pos 1)) (var 2) (var 3) (num (pos 1)) (var 4) (var 5) (num (pos 1)))
+    (a.x ∷ a.y ∷ b.x ∷ b.y ∷ c.x ∷ c.y ∷ []) refl
 
 -- two positions and any point: the point's numbers, less its weight times the first position
-pub turn-point : (a b : Pt) (p : Point) → (b.x -ℤ a.x) *ℤ (p.y -ℤ a.y *ℤ p.w) -ℤ (b.y -ℤ a.y) *ℤ (p.x -ℤ a.x *ℤ p.w) ≡ turn (point_of a) (point_of b) p
+pub turn-point :
+    (a b : Pt) (p : Point) → (b.x -ℤ a.x) *ℤ (p.y -ℤ a.y *ℤ p.w) -ℤ (b.y -ℤ a.y) *ℤ (p.x -ℤ a.x *ℤ p.w) ≡ turn (point_of a) (point_of b) p
 unfolding turn
 turn-point a b p =
-    identity (((var 2 ⊖ var 0) ⊗ (var 5 ⊖ var 1 ⊗ var 6)) ⊖ ((var 3 ⊖ var 1) ⊗ (var 4 ⊖ var 0 ⊗ var 6))) (turn_p (var 0) (var 1) (num (pos 1)) (var 2) (var 3) (num (pos 1)) (var 4) (var 5) (var 6)) (a.x ∷ a.y ∷ b.x ∷ b.y ∷ p.x ∷ p.y ∷ p.w ∷ []) refl
+    identity (((var 2 ⊖ var 0) ⊗ (var 5 ⊖ var 1 ⊗ var 6)) ⊖ ((var 3 ⊖ var 1) ⊗ (var 4 ⊖ var 0 ⊗ var 6)))
+    (turn_p (var 0) (var 1) (num (pos 1)) (var 2) (var 3) (num (pos 1)) (var 4) (var 5) (var 6))
+    (a.x ∷ a.y ∷ b.x ∷ b.y ∷ p.x ∷ p.y ∷ p.w ∷ []) refl
 
 -- ---- positions: their distances to a point, and both weights 1
 pub shift-position : (a : Pt) (p : Point) → shift (point_of a) p ≡ p.x -ℤ a.x *ℤ p.w

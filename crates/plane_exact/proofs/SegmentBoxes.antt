@@ -11,7 +11,8 @@ use Rattle.plane_exact.specs.declared.point.Pt.{Pt}
 use Rattle.plane_laws.proofs.Segments.Mixes.{segment_flip}
 use Rattle.plane_laws.proofs.Turns.Turns.{turn_swap}
 use Rattle.plane_laws.proofs.Segments.Onto.{on_segment_by_shift, on_segment_by_rise}
-use Rattle.plane_exact.proofs.Positions.{shift-position, shift-to_position, shift-positions, rise-position, rise-to_position, rise-positions}
+use Rattle.plane_exact.proofs.Positions.{shift-position, shift-to_position, shift-positions, rise-position, rise-to_position}
+use Rattle.plane_exact.proofs.Positions.{rise-positions}
 
 -- between two coordinates, by the lesser and the greater
 between : (m n x w : ℤ) → pos 0 <ℤ w → m ≤ℤ n → (int_min m n *ℤ w) ≤ℤ x → x ≤ℤ (int_max m n *ℤ w) → ((m *ℤ w) ≤ℤ x) × (x ≤ℤ (n *ℤ w))
@@ -21,15 +22,21 @@ between m n x w hw o low high =
     (≤ℤ_trans (scale_≤ℤ_right (<ℤ_weaken hw) a) low, ≤ℤ_trans high (scale_≤ℤ_right (<ℤ_weaken hw) b))
 
 -- the ends' abscissas in order, and not the same
-by_abscissas : (a b : Pt) (p : Point) → a.x <ℤ b.x → turn (point_of a) (point_of b) p ≡ pos 0 → (int_min a.x b.x *ℤ p.w) ≤ℤ p.x → p.x ≤ℤ (int_max a.x b.x *ℤ p.w) → IsOnSegment (point_of a) (point_of b) p
+by_abscissas :
+    (a b : Pt) (p : Point) → a.x <ℤ b.x → turn (point_of a) (point_of b) p ≡ pos 0 → (int_min a.x b.x *ℤ p.w) ≤ℤ p.x
+    → p.x ≤ℤ (int_max a.x b.x *ℤ p.w) → IsOnSegment (point_of a) (point_of b) p
 by_abscissas a b p h line low high =
     let in_order = between a.x b.x p.x p.w p.heavy (<ℤ_weaken h) low high in
-    on_segment_by_shift (point_of a) (point_of b) p line (omega (arith, linear, shift-positions a b, h)) (omega (arith, linear, shift-position a p, in_order.0)) (omega (arith, linear, shift-to_position p b, in_order.1))
+    on_segment_by_shift (point_of a) (point_of b) p line (omega (arith, linear, shift-positions a b, h))
+    (omega (arith, linear, shift-position a p, in_order.0)) (omega (arith, linear, shift-to_position p b, in_order.1))
 
-by_heights : (a b : Pt) (p : Point) → a.y <ℤ b.y → turn (point_of a) (point_of b) p ≡ pos 0 → (int_min a.y b.y *ℤ p.w) ≤ℤ p.y → p.y ≤ℤ (int_max a.y b.y *ℤ p.w) → IsOnSegment (point_of a) (point_of b) p
+by_heights :
+    (a b : Pt) (p : Point) → a.y <ℤ b.y → turn (point_of a) (point_of b) p ≡ pos 0 → (int_min a.y b.y *ℤ p.w) ≤ℤ p.y
+    → p.y ≤ℤ (int_max a.y b.y *ℤ p.w) → IsOnSegment (point_of a) (point_of b) p
 by_heights a b p h line low high =
     let in_order = between a.y b.y p.y p.w p.heavy (<ℤ_weaken h) low high in
-    on_segment_by_rise (point_of a) (point_of b) p line (omega (arith, linear, rise-positions a b, h)) (omega (arith, linear, rise-position a p, in_order.0)) (omega (arith, linear, rise-to_position p b, in_order.1))
+    on_segment_by_rise (point_of a) (point_of b) p line (omega (arith, linear, rise-positions a b, h))
+    (omega (arith, linear, rise-position a p, in_order.0)) (omega (arith, linear, rise-to_position p b, in_order.1))
 
 swapped : (a b : Pt) (p : Point) → turn (point_of a) (point_of b) p ≡ pos 0 → turn (point_of b) (point_of a) p ≡ pos 0
 swapped a b p line = omega (arith, linear, turn_swap (point_of a) (point_of b) p, line)
@@ -41,7 +48,9 @@ int_max-comm : (m n : ℤ) → int_max n m ≡ int_max m n
 int_max-comm m n = omega (arith, ints, clamps)
 
 -- both ends at one place
-at_both : (a b : Pt) (p : Point) → a.x ≡ b.x → a.y ≡ b.y → (int_min a.x b.x *ℤ p.w) ≤ℤ p.x → p.x ≤ℤ (int_max a.x b.x *ℤ p.w) → (int_min a.y b.y *ℤ p.w) ≤ℤ p.y → p.y ≤ℤ (int_max a.y b.y *ℤ p.w) → IsOnSegment (point_of a) (point_of b) p
+at_both :
+    (a b : Pt) (p : Point) → a.x ≡ b.x → a.y ≡ b.y → (int_min a.x b.x *ℤ p.w) ≤ℤ p.x → p.x ≤ℤ (int_max a.x b.x *ℤ p.w)
+    → (int_min a.y b.y *ℤ p.w) ≤ℤ p.y → p.y ≤ℤ (int_max a.y b.y *ℤ p.w) → IsOnSegment (point_of a) (point_of b) p
 at_both a b p ex ey lx hx ly hy =
     let one_x = between a.x b.x p.x p.w p.heavy (omega (arith, linear, ex)) lx hx in
     let one_y = between a.y b.y p.y p.w p.heavy (omega (arith, linear, ey)) ly hy in
@@ -50,11 +59,17 @@ at_both a b p ex ey lx hx ly hy =
     whole : (x m n w : ℤ) → x ≡ m *ℤ w → pos 1 *ℤ x ≡ w *ℤ m +ℤ pos 0 *ℤ n
     whole x m n w e = one-*ℤ x ∙ e ∙ identity (var 0 ⊗ var 1) (var 1 ⊗ var 0 ⊕ num (pos 0) ⊗ var 2) (m ∷ w ∷ n ∷ []) refl
 
-pub on_segment_in_box : (a b : Pt) (p : Point) → turn (point_of a) (point_of b) p ≡ pos 0 → (int_min a.x b.x *ℤ p.w) ≤ℤ p.x → p.x ≤ℤ (int_max a.x b.x *ℤ p.w) → (int_min a.y b.y *ℤ p.w) ≤ℤ p.y → p.y ≤ℤ (int_max a.y b.y *ℤ p.w) → IsOnSegment (point_of a) (point_of b) p
+pub on_segment_in_box :
+    (a b : Pt) (p : Point) → turn (point_of a) (point_of b) p ≡ pos 0 → (int_min a.x b.x *ℤ p.w) ≤ℤ p.x → p.x ≤ℤ (int_max a.x b.x *ℤ p.w)
+    → (int_min a.y b.y *ℤ p.w) ≤ℤ p.y → p.y ≤ℤ (int_max a.y b.y *ℤ p.w) → IsOnSegment (point_of a) (point_of b) p
 on_segment_in_box a b p line lx hx ly hy = by_order a.x b.x
     (λ h. by_abscissas a b p h line lx hx)
     (λ e. by_order a.y b.y
     (λ h. by_heights a b p h line ly hy)
     (λ f. at_both a b p e f lx hx ly hy)
-    (λ h. segment_flip (by_heights b a p h (swapped a b p line) (subst (λ (z : ℤ). (z *ℤ p.w) ≤ℤ p.y) (sym (int_min-comm a.y b.y)) ly) (subst (λ (z : ℤ). p.y ≤ℤ (z *ℤ p.w)) (sym (int_max-comm a.y b.y)) hy))))
-    (λ h. segment_flip (by_abscissas b a p h (swapped a b p line) (subst (λ (z : ℤ). (z *ℤ p.w) ≤ℤ p.x) (sym (int_min-comm a.x b.x)) lx) (subst (λ (z : ℤ). p.x ≤ℤ (z *ℤ p.w)) (sym (int_max-comm a.x b.x)) hx)))
+    (λ h. segment_flip
+    (by_heights b a p h (swapped a b p line) (subst (λ (z : ℤ). (z *ℤ p.w) ≤ℤ p.y) (sym (int_min-comm a.y b.y)) ly)
+    (subst (λ (z : ℤ). p.y ≤ℤ (z *ℤ p.w)) (sym (int_max-comm a.y b.y)) hy))))
+    (λ h. segment_flip
+    (by_abscissas b a p h (swapped a b p line) (subst (λ (z : ℤ). (z *ℤ p.w) ≤ℤ p.x) (sym (int_min-comm a.x b.x)) lx)
+    (subst (λ (z : ℤ). p.x ≤ℤ (z *ℤ p.w)) (sym (int_max-comm a.x b.x)) hx)))

@@ -28,7 +28,11 @@ pub upward : (a b : Pt) → IsInLimit a → IsInLimit b → Computes (narrow (na
 upward a b h k = stored w64 (step a.y b.y (height_size a h) (height_size b k)) refl
 
 -- the cross product of two ways from one position
-pub turned : (a b c : Pt) → IsInLimit a → IsInLimit b → IsInLimit c → Computes (narrow (narrow b.x -ℤ narrow a.x) *ℤ narrow (narrow c.y -ℤ narrow a.y) -ℤ narrow (narrow b.y -ℤ narrow a.y) *ℤ narrow (narrow c.x -ℤ narrow a.x)) ((b.x -ℤ a.x) *ℤ (c.y -ℤ a.y) -ℤ (b.y -ℤ a.y) *ℤ (c.x -ℤ a.x)) widest
+pub turned :
+    (a b c : Pt) → IsInLimit a → IsInLimit b → IsInLimit c
+    → Computes
+    (narrow (narrow b.x -ℤ narrow a.x) *ℤ narrow (narrow c.y -ℤ narrow a.y) -ℤ narrow (narrow b.y -ℤ narrow a.y) *ℤ narrow
+    (narrow c.x -ℤ narrow a.x)) ((b.x -ℤ a.x) *ℤ (c.y -ℤ a.y) -ℤ (b.y -ℤ a.y) *ℤ (c.x -ℤ a.x)) widest
 turned a b c h k l = difference (product (across a b h k) (upward a c h l)) (product (upward a b h k) (across a c h l))
 
 -- the numbers of a fraction

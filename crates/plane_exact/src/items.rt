@@ -1,4 +1,5 @@
-ghost use Rattle.std.specs.Prelude.{◌≡◌, ◌<◌, List, [], ◌∷◌, ◌++◌, length, OnOk, OnErr, IfSome, IfNone, IsNone, ◌↔◌, reverse, slice_index_or, IsPermutation, IsSorted};
+ghost use Rattle.std.specs.Prelude.{◌≡◌, ◌<◌, List, [], ◌∷◌, ◌++◌, length, OnOk, OnErr, IfSome, IfNone, IsNone, ◌↔◌, reverse};
+ghost use Rattle.std.specs.Prelude.{slice_index_or, IsPermutation, IsSorted};
 
 use std::alloc::{AllocError, Global};
 use std::marker::Model;

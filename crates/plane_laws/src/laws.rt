@@ -2,7 +2,8 @@
 
 ghost use Rattle.std.specs.Prelude.{◌≡◌, ℤ, ◌*ℤ◌, true, ◌↔◌};
 ghost use Rattle.std.specs.Int.{int_signum};
-ghost use Rattle.plane_laws.specs.Plane.{Point, IsSamePoint, IsMix, IsMean, IsOnSegment, IsStrictlyBetween, IsInTriangle, IsStrictlyInTriangle, turn, rise, shift, is_same_point, is_on_segment};
+ghost use Rattle.plane_laws.specs.Plane.{Point, IsSamePoint, IsMix, IsMean, IsOnSegment, IsStrictlyBetween, IsInTriangle};
+ghost use Rattle.plane_laws.specs.Plane.{IsStrictlyInTriangle, turn, rise, shift, is_same_point, is_on_segment};
 
 /// To stand for the same point is an equivalence.
 pub fn law_same_point_is_equivalence()
@@ -32,19 +33,24 @@ pub fn law_mixes_are_means()
 
 /// To be on a segment, or strictly between two points, is said of points: it holds of all triples that stand for them.
 pub fn law_segments_are_of_points()
-    ensures on { (a a' b b' p p' : Point) → IsSamePoint a a' → IsSamePoint b b' → IsSamePoint p p' → IsOnSegment a b p → IsOnSegment a' b' p' }
-    ensures between { (a a' b b' p p' : Point) → IsSamePoint a a' → IsSamePoint b b' → IsSamePoint p p' → IsStrictlyBetween a b p → IsStrictlyBetween a' b' p' }
+    ensures on { (a a' b b' p p' : Point) → IsSamePoint a a' → IsSamePoint b b' → IsSamePoint p p' → IsOnSegment a b p
+        → IsOnSegment a' b' p' }
+    ensures between { (a a' b b' p p' : Point) → IsSamePoint a a' → IsSamePoint b b' → IsSamePoint p p' → IsStrictlyBetween a b p
+        → IsStrictlyBetween a' b' p' }
 {}
 
 /// To be in a triangle, or strictly in it, is said of points.
 pub fn law_triangles_are_of_points()
-    ensures within { (a a' b b' c c' p p' : Point) → IsSamePoint a a' → IsSamePoint b b' → IsSamePoint c c' → IsSamePoint p p' → IsInTriangle a b c p → IsInTriangle a' b' c' p' }
-    ensures strictly { (a a' b b' c c' p p' : Point) → IsSamePoint a a' → IsSamePoint b b' → IsSamePoint c c' → IsSamePoint p p' → IsStrictlyInTriangle a b c p → IsStrictlyInTriangle a' b' c' p' }
+    ensures within { (a a' b b' c c' p p' : Point) → IsSamePoint a a' → IsSamePoint b b' → IsSamePoint c c' → IsSamePoint p p'
+        → IsInTriangle a b c p → IsInTriangle a' b' c' p' }
+    ensures strictly { (a a' b b' c c' p p' : Point) → IsSamePoint a a' → IsSamePoint b b' → IsSamePoint c c' → IsSamePoint p p'
+        → IsStrictlyInTriangle a b c p → IsStrictlyInTriangle a' b' c' p' }
 {}
 
 /// The signs of a turn, a rise and a shift belong to the points.
 pub fn law_signs_are_of_points()
-    ensures turn { (a a' b b' c c' : Point) → IsSamePoint a a' → IsSamePoint b b' → IsSamePoint c c' → int_signum (turn a b c) ≡ int_signum (turn a' b' c') }
+    ensures turn { (a a' b b' c c' : Point) → IsSamePoint a a' → IsSamePoint b b' → IsSamePoint c c'
+        → int_signum (turn a b c) ≡ int_signum (turn a' b' c') }
     ensures rise { (a a' b b' : Point) → IsSamePoint a a' → IsSamePoint b b' → int_signum (rise a b) ≡ int_signum (rise a' b') }
     ensures shift { (a a' b b' : Point) → IsSamePoint a a' → IsSamePoint b b' → int_signum (shift a b) ≡ int_signum (shift a' b') }
 {}

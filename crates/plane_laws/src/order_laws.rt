@@ -23,7 +23,8 @@ pub fn law_heights_are_ordered()
 pub fn law_points_of_a_segment_are_ordered()
     ensures total { (a b : Point) → IsTotalOrder (compare_along a b) }
     ensures same { (a b p q : Point) → IsOnSegment a b p → IsOnSegment a b q → (compare_along a b p q ≡ Equal) ↔ IsSamePoint p q }
-    ensures way { (a b p q : Point) → ¬ IsSamePoint a b → IsOnSegment a b p → IsOnSegment a b q → IsOnSegment a q p ↔ (¬ (compare_along a b p q ≡ Greater)) }
+    ensures way { (a b p q : Point) → ¬ IsSamePoint a b → IsOnSegment a b p → IsOnSegment a b q
+        → IsOnSegment a q p ↔ (¬ (compare_along a b p q ≡ Greater)) }
 {}
 
 /// The order of angles is a total order of directions, and answers Equal exactly where two point the same way.

@@ -1,6 +1,7 @@
 ghost use Rattle.std.specs.Prelude.{◌≡◌, ℕ, ◌+◌, ◌≤◌, IsTrue, ◌↔◌, length, All, sum_by, min};
 ghost use Rattle.plane_exact.specs.Limits.{most_positions};
-ghost use Rattle.point_set.specs.Shape.{IsWayInLimit, IsLineShaped, IsClosed, IsRingShaped, IsAreaShaped, IsWellShaped, positions_of, positions_of_area};
+ghost use Rattle.point_set.specs.Shape.{IsWayInLimit, IsLineShaped, IsClosed, IsRingShaped, IsAreaShaped, IsWellShaped, positions_of};
+ghost use Rattle.point_set.specs.Shape.{positions_of_area};
 
 use crate::figure::{Area, Figure, Paths};
 use plane_exact::{MOST_POSITIONS, Path, in_limit};

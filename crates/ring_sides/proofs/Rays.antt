@@ -1,5 +1,6 @@
 -- The ray from the middle of an edge, and what the count of crossings there says of the whole ring.
-use Rattle.std.proofs.Common.{◌≡◌, ℕ, ℤ, pos, ◌+ℤ◌, ◌-ℤ◌, ◌*ℤ◌, neg_ℤ, ◌<ℤ◌, ◌≤ℤ◌, Bool, true, false, ◌&&◌, ◌||◌, List, [], ◌∷◌, ap, refl, sym, ◌∙◌, subst, arith}
+use Rattle.std.proofs.Common.{◌≡◌, ℕ, ℤ, pos, ◌+ℤ◌, ◌-ℤ◌, ◌*ℤ◌, neg_ℤ, ◌<ℤ◌, ◌≤ℤ◌, Bool, true, false, ◌&&◌, ◌||◌, List, [], ◌∷◌, ap, refl}
+use Rattle.std.proofs.Common.{sym, ◌∙◌, subst, arith}
 use mathlib.Core.Bool.{beq}
 use Rattle.std.specs.Prelude.{None, not, slice_get, int_lt, int_le}
 use Rattle.std.specs.Bool.{MatchBool}
@@ -53,7 +54,10 @@ middle_between e apart = record {
 }
 
 -- the turn of the middle is the sum of those of the ends
-pub turn_of_middle : (a b : Pt) (e : Seg) → turn (point_of a) (point_of b) (middle_of e) ≡ turn (point_of a) (point_of b) (point_of e.a) +ℤ turn (point_of a) (point_of b) (point_of e.b)
+pub turn_of_middle :
+    (a b : Pt) (e : Seg)
+    → turn (point_of a) (point_of b) (middle_of e) ≡ turn (point_of a) (point_of b) (point_of e.a) +ℤ turn (point_of a) (point_of b)
+    (point_of e.b)
 unfolding turn
 turn_of_middle a b e =
     let pa : PolyPoint = record { x = var 0; y = var 1; w = num (pos 1) } in
@@ -74,7 +78,8 @@ rightward = record { x = pos 1; y = pos 0; moves = λ h. not_one h.0 }
 upward : Direction
 upward = record { x = pos 0; y = pos 1; moves = λ h. not_one h.1 }
 
-low_is : (p v : ℤ) (b : Bool) → MatchBool b ((v *ℤ pos 2) ≤ℤ (p *ℤ pos 1)) ((p *ℤ pos 1) <ℤ (v *ℤ pos 2)) → int_le (v *ℤ pos 2) (p *ℤ pos 1) ≡ b
+low_is :
+    (p v : ℤ) (b : Bool) → MatchBool b ((v *ℤ pos 2) ≤ℤ (p *ℤ pos 1)) ((p *ℤ pos 1) <ℤ (v *ℤ pos 2)) → int_le (v *ℤ pos 2) (p *ℤ pos 1) ≡ b
 low_is p v b h =
     same_tests (int_le (v *ℤ pos 2) (p *ℤ pos 1)) b (tells_le (v *ℤ pos 2) (p *ℤ pos 1)) h
     (λ l k. clash ((v *ℤ pos 2)) ((p *ℤ pos 1)) l k) (λ l k. clash ((v *ℤ pos 2)) ((p *ℤ pos 1)) k l)
@@ -110,7 +115,9 @@ steep_ray e s steep =
     not_both true = refl
     not_both false = refl
 
-    low_end : (v : ℤ) (b : Bool) → MatchBool b ((v +ℤ v) ≤ℤ (e.a.y +ℤ e.b.y)) ((e.a.y +ℤ e.b.y) <ℤ (v +ℤ v)) → int_le (v *ℤ pos 2) ((e.a.y +ℤ e.b.y) *ℤ pos 1) ≡ b
+    low_end :
+        (v : ℤ) (b : Bool) → MatchBool b ((v +ℤ v) ≤ℤ (e.a.y +ℤ e.b.y)) ((e.a.y +ℤ e.b.y) <ℤ (v +ℤ v))
+        → int_le (v *ℤ pos 2) ((e.a.y +ℤ e.b.y) *ℤ pos 1) ≡ b
     low_end v true h = low_is (e.a.y +ℤ e.b.y) v true (omega (arith, linear, twice v, *ℤ_one (e.a.y +ℤ e.b.y), h))
     low_end v false h = low_is (e.a.y +ℤ e.b.y) v false (omega (arith, linear, twice v, *ℤ_one (e.a.y +ℤ e.b.y), h))
 
@@ -133,7 +140,8 @@ unfolding upward
 level_ray e s level way = record {
   up = omega (arith, linear);
   side = subst (HasSign s) (sym (up_slope (e.b.x -ℤ e.a.x) (e.b.y -ℤ e.a.y))) way;
-  uncrossed = ap (λ z. crossing_of (int_le (e.a.y *ℤ pos 2) ((e.a.y +ℤ e.b.y) *ℤ pos 1)) (int_le (z *ℤ pos 2) ((e.a.y +ℤ e.b.y) *ℤ pos 1)) s) level
+  uncrossed =
+      ap (λ z. crossing_of (int_le (e.a.y *ℤ pos 2) ((e.a.y +ℤ e.b.y) *ℤ pos 1)) (int_le (z *ℤ pos 2) ((e.a.y +ℤ e.b.y) *ℤ pos 1)) s) level
       ∙ same_height (int_le (e.a.y *ℤ pos 2) ((e.a.y +ℤ e.b.y) *ℤ pos 1)) s;
 }
   where
@@ -153,14 +161,20 @@ ray_of e apart = by_fall (int_lt e.b.y e.a.y) refl (tells_lt e.b.y e.a.y)
       above = ap (λ z. z *ℤ pos 1) (sym h);
     })
 
-    by_way : (z : Bool) → int_lt e.a.x e.b.x ≡ z → MatchBool z (e.a.x <ℤ e.b.x) (e.b.x ≤ℤ e.a.x) → int_lt e.b.y e.a.y ≡ false → int_eq e.b.y e.a.y ≡ true → e.b.y ≡ e.a.y → HasRay e
+    by_way :
+        (z : Bool) → int_lt e.a.x e.b.x ≡ z → MatchBool z (e.a.x <ℤ e.b.x) (e.b.x ≤ℤ e.a.x) → int_lt e.b.y e.a.y ≡ false
+        → int_eq e.b.y e.a.y ≡ true → e.b.y ≡ e.a.y → HasRay e
     by_way true l way h k level = record {
       d = upward;
-      is = subst (λ s. IsRay e (middle_of e) s upward) (sym (test_is false true true h k l)) (level_ray e true level (omega (arith, linear, way)));
+      is =
+          subst (λ s. IsRay e (middle_of e) s upward) (sym (test_is false true true h k l))
+          (level_ray e true level (omega (arith, linear, way)));
     }
     by_way false l way h k level = record {
       d = upward;
-      is = subst (λ s. IsRay e (middle_of e) s upward) (sym (test_is false true false h k l)) (level_ray e false level (back way (still level)));
+      is =
+          subst (λ s. IsRay e (middle_of e) s upward) (sym (test_is false true false h k l))
+          (level_ray e false level (back way (still level)));
     }
       where
         back : e.b.x ≤ℤ e.a.x → (e.b.x ≡ e.a.x → ⊥) → (e.b.x -ℤ e.a.x) <ℤ pos 0
@@ -180,12 +194,16 @@ ray_of e apart = by_fall (int_lt e.b.y e.a.y) refl (tells_lt e.b.y e.a.y)
     by_fall : (x : Bool) → int_lt e.b.y e.a.y ≡ x → MatchBool x (e.b.y <ℤ e.a.y) (e.a.y ≤ℤ e.b.y) → HasRay e
     by_fall true h falls = record {
       d = rightward;
-      is = subst (λ s. IsRay e (middle_of e) s rightward) (sym (test_is true (int_eq e.b.y e.a.y) (int_lt e.a.x e.b.x) h refl refl)) (steep_ray e true falls);
+      is =
+          subst (λ s. IsRay e (middle_of e) s rightward) (sym (test_is true (int_eq e.b.y e.a.y) (int_lt e.a.x e.b.x) h refl refl))
+          (steep_ray e true falls);
     }
     by_fall false h low = by_level (int_eq e.b.y e.a.y) refl h low
 
 -- ---- the hand of the inside, by the first edge
-side_by_count : (ring : List Pt) → IsClosed ring → ¬ CrossesItself ring → (e : Seg) → IsAtPlace (edges_of ring) 0 e → IsInsideHand ring (hand_by (by_hand (is_ray_left e) (is_odd (middle_of e) (edges_of ring))))
+side_by_count :
+    (ring : List Pt) → IsClosed ring → ¬ CrossesItself ring → (e : Seg) → IsAtPlace (edges_of ring) 0 e
+    → IsInsideHand ring (hand_by (by_hand (is_ray_left e) (is_odd (middle_of e) (edges_of ring))))
 side_by_count ring closed uncrossed e is =
     let simple = ring_is_simple ring closed uncrossed in
     let apart = simple.moving 0 e is in
@@ -195,7 +213,8 @@ side_by_count ring closed uncrossed e is =
     let same = ray_counts ring simple 0 e is (middle_of e) between (is_ray_left e) ray.d ray.is has.left has.beside in
     subst (λ left. IsInsideHand ring (hand_by left)) same
     (inside_hand ring has.left (all_from_first ring closed simple has.left
-    (λ f is_f. subst (λ g. IsBesideAll ring g has.left) (some_same (sym is ∙ is_f)) (beside_all ring closed simple 0 e is (middle_of e) between has.left has.beside))))
+    (λ f is_f. subst (λ g. IsBesideAll ring g has.left) (some_same (sym is ∙ is_f))
+    (beside_all ring closed simple 0 e is (middle_of e) between has.left has.beside))))
 
 -- a ring without edges has any hand
 pub side_of_none : (ring : List Pt) → slice_get (edges_of ring) 0 ≡ None → IsInsideHand ring hand.Left
@@ -218,12 +237,18 @@ other_side true false h = refl
 other_side false true h = refl
 other_side false false h = h
 
-side_of_tests : (ring : List Pt) → IsClosed ring → ¬ CrossesItself ring → (e : Seg) → IsAtPlace (edges_of ring) 0 e → (r o b : Bool) → r ≡ is_ray_left e → o ≡ is_odd (middle_of e) (edges_of ring) → by_hand r o ≡ b → IsInsideHand ring (hand_by b)
+side_of_tests :
+    (ring : List Pt) → IsClosed ring → ¬ CrossesItself ring → (e : Seg) → IsAtPlace (edges_of ring) 0 e → (r o b : Bool) → r ≡ is_ray_left e
+    → o ≡ is_odd (middle_of e) (edges_of ring) → by_hand r o ≡ b → IsInsideHand ring (hand_by b)
 side_of_tests ring closed uncrossed e is r o b h k same =
     subst (λ left. IsInsideHand ring (hand_by left)) ((λ i. by_hand (sym h i) (sym k i)) ∙ same) (side_by_count ring closed uncrossed e is)
 
-pub left_by_tests : (ring : List Pt) → IsClosed ring → ¬ CrossesItself ring → (e : Seg) → IsAtPlace (edges_of ring) 0 e → (r o : Bool) → r ≡ is_ray_left e → o ≡ is_odd (middle_of e) (edges_of ring) → beq r o ≡ true → IsInsideHand ring hand.Left
+pub left_by_tests :
+    (ring : List Pt) → IsClosed ring → ¬ CrossesItself ring → (e : Seg) → IsAtPlace (edges_of ring) 0 e → (r o : Bool) → r ≡ is_ray_left e
+    → o ≡ is_odd (middle_of e) (edges_of ring) → beq r o ≡ true → IsInsideHand ring hand.Left
 left_by_tests ring closed uncrossed e is r o h k same = side_of_tests ring closed uncrossed e is r o true h k (same_side r o same)
 
-pub right_by_tests : (ring : List Pt) → IsClosed ring → ¬ CrossesItself ring → (e : Seg) → IsAtPlace (edges_of ring) 0 e → (r o : Bool) → r ≡ is_ray_left e → o ≡ is_odd (middle_of e) (edges_of ring) → beq r o ≡ false → IsInsideHand ring hand.Right
+pub right_by_tests :
+    (ring : List Pt) → IsClosed ring → ¬ CrossesItself ring → (e : Seg) → IsAtPlace (edges_of ring) 0 e → (r o : Bool) → r ≡ is_ray_left e
+    → o ≡ is_odd (middle_of e) (edges_of ring) → beq r o ≡ false → IsInsideHand ring hand.Right
 right_by_tests ring closed uncrossed e is r o h k other = side_of_tests ring closed uncrossed e is r o false h k (other_side r o other)

@@ -1,5 +1,6 @@
 -- A triangle is a ring that neither has too few points nor crosses itself, and a figure of one such ring is valid.
-use Rattle.std.proofs.Common.{◌≡◌, ◌≢◌, ◌⊎◌, inl, inr, ℕ, zero, suc, ◌<◌, ℤ, pos, ◌-ℤ◌, ◌*ℤ◌, false, List, [], ◌∷◌, ap, refl, sym, ◌∙◌, subst, arith}
+use Rattle.std.proofs.Common.{◌≡◌, ◌≢◌, ◌⊎◌, inl, inr, ℕ, zero, suc, ◌<◌, ℤ, pos, ◌-ℤ◌, ◌*ℤ◌, false, List, [], ◌∷◌, ap, refl, sym, ◌∙◌}
+use Rattle.std.proofs.Common.{subst, arith}
 use Rattle.std.proofs.lemmas.Bool.{false_from_ne_true}
 use Rattle.std.proofs.lemmas.List.Elements.{All-head, All-tail}
 use lib.IntN.{zero-*ℤ, *ℤ_comm}
@@ -18,7 +19,10 @@ use Rattle.point_set.specs.declared.figure.Area.{Area}
 use Rattle.point_set.specs.declared.figure.Figure.{Figure}
 use Rattle.point_set.specs.Rings.{is_same_position, edge_before, edges_of}
 use Rattle.point_set.specs.Location.{rings_of}
-use Rattle.point_set.specs.Validity.{IsAtPlace, IsOnEdge, IsJoint, HasTooFewPoints, CrossesItself, SomeRing, SomeArea, SomeEarlier, RingsShareSegment, HasHoleOutside, HasHolesThatOverlap, Touch, HasTouchCycle, AreasShareSegment, AreasOverlap, too_few_points, ring_cross, rings_share_edge, hole_outside, holes_overlap, disconnected, elements_share_edge, elements_overlap, IsValid}
+use Rattle.point_set.specs.Validity.{IsAtPlace, IsOnEdge, IsJoint, HasTooFewPoints, CrossesItself, SomeRing, SomeArea, SomeEarlier}
+use Rattle.point_set.specs.Validity.{RingsShareSegment, HasHoleOutside, HasHolesThatOverlap, Touch, HasTouchCycle, AreasShareSegment}
+use Rattle.point_set.specs.Validity.{AreasOverlap, too_few_points, ring_cross, rings_share_edge, hole_outside, holes_overlap, disconnected}
+use Rattle.point_set.specs.Validity.{elements_share_edge, elements_overlap, IsValid}
 use Rattle.figure_laws.proofs.Lists.Places.{same_position, some_same}
 
 -- ---- two sides of a triangle have only their corner in common
@@ -69,7 +73,9 @@ corners_differ {a} {b} {c} h e =
 corners_apart : {a b c : Pt} → AreCorners a b c → is_same_position a b ≡ false
 corners_apart {a} {b} h = false_from_ne_true (is_same_position a b) (λ e. corners_differ h (same_position a b e))
 
-edge_first : (p q : Pt) (edges : List Seg) → is_same_position p q ≡ false → edge_before (is_same_position p q) p q edges ≡ record { a = p; b = q } ∷ edges
+edge_first :
+    (p q : Pt) (edges : List Seg) → is_same_position p q ≡ false
+    → edge_before (is_same_position p q) p q edges ≡ record { a = p; b = q } ∷ edges
 edge_first p q edges h = ap (λ same. edge_before same p q edges) h
 
 pub triangle_edges : {a b c : Pt} → AreCorners a b c → edges_of (ring_of a b c) ≡ three_edges a b c
@@ -103,7 +109,9 @@ starts_same {p} h at = subst (λ (s : Seg). IsSamePoint (point_of s.a) p) h at
 
 -- a common point of two edges is their joint
 abbrev MeetAtJoints : List Seg → Type 0
-MeetAtJoints edges = (i j : ℕ) (e f : Seg) → i < j → IsAtPlace edges i e → IsAtPlace edges j f → (p : Point) → IsOnEdge e p → IsOnEdge f p → IsJoint edges i j e f p
+MeetAtJoints edges =
+    (i j : ℕ) (e f : Seg) → i < j → IsAtPlace edges i e → IsAtPlace edges j f → (p : Point) → IsOnEdge e p → IsOnEdge f p
+    → IsJoint edges i j e f p
 
 three_meet : {a b c : Pt} → AreCorners a b c → MeetAtJoints (three_edges a b c)
 three_meet h i zero e f before is_e is_f p on_e on_f = absurd (omega (arith, before))
@@ -111,9 +119,18 @@ three_meet h zero (suc zero) e f before is_e is_f p on_e on_f =
     inl (refl, starts_same (some_same is_f) (corner_alone h.broad (on_same (some_same is_e) on_e) (on_same (some_same is_f) on_f)))
 three_meet h (suc i) (suc zero) e f before is_e is_f p on_e on_f = absurd (omega (arith, before))
 three_meet h zero (suc (suc zero)) e f before is_e is_f p on_e on_f =
-    inr (refl, refl, starts_same (some_same is_e) (corner_alone (corners_cycle (corners_cycle h)).broad (on_same (some_same is_f) on_f) (on_same (some_same is_e) on_e)))
+    inr (
+      refl,
+      refl,
+      starts_same (some_same is_e)
+          (corner_alone (corners_cycle (corners_cycle h)).broad (on_same (some_same is_f) on_f) (on_same (some_same is_e) on_e)),
+    )
 three_meet h (suc zero) (suc (suc zero)) e f before is_e is_f p on_e on_f =
-    inl (refl, starts_same (some_same is_f) (corner_alone (corners_cycle h).broad (on_same (some_same is_e) on_e) (on_same (some_same is_f) on_f)))
+    inl (
+      refl,
+      starts_same (some_same is_f)
+          (corner_alone (corners_cycle h).broad (on_same (some_same is_e) on_e) (on_same (some_same is_f) on_f)),
+    )
 three_meet h (suc (suc i)) (suc (suc zero)) e f before is_e is_f p on_e on_f = absurd (omega (arith, before))
 three_meet h i (suc (suc (suc j))) e f before is_e is_f p on_e on_f = cc
 
@@ -122,14 +139,17 @@ triangle_simple h x =
     x.unjoined (subst MeetAtJoints (sym (triangle_edges h)) (three_meet h) x.i x.j x.e x.f x.earlier x.e_is x.f_is x.p x.on_e x.on_f)
 
 -- ---- a figure with one area that has no holes
-only_item : {T : Type 0} (items : List T) (item : T) → items ≡ item ∷ [] → (place : ℕ) (x : T) → IsAtPlace items place x → (place ≡ 0) × (item ≡ x)
+only_item :
+    {T : Type 0} (items : List T) (item : T) → items ≡ item ∷ [] → (place : ℕ) (x : T) → IsAtPlace items place x → (place ≡ 0) × (item ≡ x)
 only_item {T} items item h place x is = go place (subst (λ xs. IsAtPlace xs place x) h is)
   where
     go : (n : ℕ) → IsAtPlace (item ∷ []) n x → (n ≡ 0) × (item ≡ x)
     go zero at = (refl, some_same at)
     go (suc n) at = cc
 
-only_ring : (area : Area) → area.holes ≡ [] → (place : ℕ) (ring : List Pt) → IsAtPlace (rings_of area) place ring → (place ≡ 0) × (area.shell ≡ ring)
+only_ring :
+    (area : Area) → area.holes ≡ [] → (place : ℕ) (ring : List Pt) → IsAtPlace (rings_of area) place ring
+    → (place ≡ 0) × (area.shell ≡ ring)
 only_ring area bare = only_item (rings_of area) area.shell (ap (λ holes. area.shell ∷ holes) bare)
 
 of_area : (IsSo : Area → Type 0) (f : Figure) (area : Area) → f.areas ≡ area ∷ [] → (place : ℕ) → SomeArea f place IsSo → IsSo area
@@ -138,7 +158,9 @@ of_area IsSo f area one place h = subst IsSo (sym (only_item f.areas area one pl
 of_shell : (IsSo : List Pt → Type 0) (area : Area) → area.holes ≡ [] → SomeRing IsSo area → IsSo area.shell
 of_shell IsSo area bare h = subst IsSo (sym (only_ring area bare h.place h.ring h.ring_is).1) h.is_so
 
-no_ring_later : (area : Area) → area.holes ≡ [] → (i j : ℕ) (one other : List Pt) → i < j → IsAtPlace (rings_of area) i one → IsAtPlace (rings_of area) j other → ⊥
+no_ring_later :
+    (area : Area) → area.holes ≡ [] → (i j : ℕ) (one other : List Pt) → i < j → IsAtPlace (rings_of area) i one
+    → IsAtPlace (rings_of area) j other → ⊥
 no_ring_later area bare i j one other before is is' =
     let last = (only_ring area bare j other is').0 in
     omega (arith, before, last)
@@ -160,7 +182,9 @@ no_earlier IsSo f area one place h =
     let before = h.earlier in
     omega (arith, first, before)
 
-pub one_ring_valid : (f : Figure) (area : Area) → f.areas ≡ area ∷ [] → area.holes ≡ [] → ¬ HasTooFewPoints area.shell → ¬ CrossesItself area.shell → IsValid f
+pub one_ring_valid :
+    (f : Figure) (area : Area) → f.areas ≡ area ∷ [] → area.holes ≡ [] → ¬ HasTooFewPoints area.shell → ¬ CrossesItself area.shell
+    → IsValid f
 one_ring_valid f area one bare enough simple place too_few_points h =
     enough (of_shell HasTooFewPoints area bare (of_area (SomeRing HasTooFewPoints) f area one place h))
 one_ring_valid f area one bare enough simple place ring_cross h =

@@ -1,5 +1,6 @@
 -- A ring whose positions are reversed: the same inside, and the other hand.
-use Rattle.std.proofs.Common.{◌≡◌, ℕ, zero, suc, neg_ℤ, Bool, true, false, not, ◌&&◌, ◌||◌, List, [], ◌∷◌, ◌++◌, reverse, ap, refl, sym, ◌∙◌, subst, arith}
+use Rattle.std.proofs.Common.{◌≡◌, ℕ, zero, suc, neg_ℤ, Bool, true, false, not, ◌&&◌, ◌||◌, List, [], ◌∷◌, ◌++◌, reverse, ap, refl, sym}
+use Rattle.std.proofs.Common.{◌∙◌, subst, arith}
 use Rattle.std.specs.Bool.{Decides}
 use Rattle.std.specs.Ordering.{int_eq}
 use Rattle.std.proofs.lemmas.Bool.Decides.{Decides-int_eq, Decides-and, Decides-like, same_from_decides}
@@ -16,7 +17,8 @@ use Rattle.plane_laws.specs.Directions.{Direction}
 use Rattle.plane_exact.specs.declared.point.Pt.{Pt}
 use Rattle.plane_exact.specs.declared.point.Seg.{Seg}
 use Rattle.point_set.specs.declared.edge.Hand.TheVariants as hand
-use Rattle.point_set.specs.Rings.{is_same_position, edge_before, edges_after, edges_of, is_on_edge, is_on_edges, crosses, differ, is_odd, is_inside}
+use Rattle.point_set.specs.Rings.{is_same_position, edge_before, edges_after, edges_of, is_on_edge, is_on_edges, crosses, differ, is_odd}
+use Rattle.point_set.specs.Rings.{is_inside}
 use Rattle.point_set.specs.Validity.{IsAtPlace}
 use Rattle.point_set.specs.Sides.{slope, HoldsBeside, IsInsideHand}
 use Rattle.ring_laws.proofs.Parity.OneEdge.{crosses_swap}
@@ -33,7 +35,8 @@ before_append false p q edges more = refl
 last_edge : Pt → Pt → List Seg
 last_edge q p = edge_before (is_same_position q p) q p []
 
-after_last : (x : Pt) (others : List Pt) (q p : Pt) → edges_after x (others ++ q ∷ p ∷ []) ≡ edges_after x (others ++ q ∷ []) ++ last_edge q p
+after_last :
+    (x : Pt) (others : List Pt) (q p : Pt) → edges_after x (others ++ q ∷ p ∷ []) ≡ edges_after x (others ++ q ∷ []) ++ last_edge q p
 unfolding last_edge
 after_last x [] q p = sym (before_append (is_same_position x q) x q [] (edge_before (is_same_position q p) q p []))
 after_last x (y ∷ others) q p =
@@ -50,19 +53,22 @@ reverse_first p others = reverse-append (p ∷ []) others
 
 turned_edges : (p q : Pt) (others : List Pt) → edges_of (reverse (p ∷ q ∷ others)) ≡ edges_of (reverse (q ∷ others)) ++ last_edge q p
 turned_edges p q others =
-    ap edges_of (reverse_first p (q ∷ others) ∙ ap (λ xs. xs ++ p ∷ []) (reverse_first q others) ∙ append_assoc (reverse others) (q ∷ []) (p ∷ []))
+    ap edges_of
+    (reverse_first p (q ∷ others) ∙ ap (λ xs. xs ++ p ∷ []) (reverse_first q others) ∙ append_assoc (reverse others) (q ∷ []) (p ∷ []))
     ∙ of_last (reverse others) q p
     ∙ ap (λ xs. edges_of xs ++ last_edge q p) (sym (reverse_first q others))
 
 -- ---- the same inside
 odd_append : (v : Point) (edges more : List Seg) → is_odd v (edges ++ more) ≡ differ (is_odd v edges) (is_odd v more)
 odd_append v [] more = refl
-odd_append v (e ∷ edges) more = ap (differ (crosses v e)) (odd_append v edges more) ∙ sym (differ_assoc (crosses v e) (is_odd v edges) (is_odd v more))
+odd_append v (e ∷ edges) more =
+    ap (differ (crosses v e)) (odd_append v edges more) ∙ sym (differ_assoc (crosses v e) (is_odd v edges) (is_odd v more))
 
 last_odd : (v : Point) (q p : Pt) → is_odd v (last_edge q p) ≡ crosses v (record { a = p; b = q })
 unfolding last_edge
 last_odd v q p =
-    odd_before v (is_same_position q p) q p [] refl ∙ differ_none (crosses v (record { a = q; b = p })) ∙ crosses_swap v (point_of p) (point_of q)
+    odd_before v (is_same_position q p) q p [] refl ∙ differ_none (crosses v (record { a = q; b = p }))
+    ∙ crosses_swap v (point_of p) (point_of q)
 
 turned_odd : (v : Point) (ring : List Pt) → is_odd v (edges_of (reverse ring)) ≡ is_odd v (edges_of ring)
 turned_odd v [] = refl
@@ -83,10 +89,13 @@ same_swap p q =
 
 on_swap : (v : Point) (p q : Pt) → is_on_edge v (record { a = q; b = p }) ≡ is_on_edge v (record { a = p; b = q })
 on_swap v p q =
-    same_from_decides (is_on_edge v (record { a = q; b = p })) (is_on_edge v (record { a = p; b = q })) (Decides-is_on_segment (point_of q) (point_of p) v)
+    same_from_decides (is_on_edge v (record { a = q; b = p })) (is_on_edge v (record { a = p; b = q }))
+    (Decides-is_on_segment (point_of q) (point_of p) v)
     (Decides-like (is_on_edge v (record { a = p; b = q })) segment_flip segment_flip (Decides-is_on_segment (point_of p) (point_of q) v))
 
-on_before : (v : Point) (same : Bool) (p q : Pt) (edges : List Seg) → (is_on_edges v edges || is_on_edges v (edge_before same q p [])) ≡ is_on_edges v (edge_before same p q edges)
+on_before :
+    (v : Point) (same : Bool) (p q : Pt) (edges : List Seg)
+    → (is_on_edges v edges || is_on_edges v (edge_before same q p [])) ≡ is_on_edges v (edge_before same p q edges)
 on_before v true p q edges = or_comm (is_on_edges v edges) false
 on_before v false p q edges =
     ap (λ z. is_on_edges v edges || (z || false)) (on_swap v p q)
@@ -118,7 +127,9 @@ each_append : (P : Seg → Type 0) (edges more : List Seg) → EachEdge P edges 
 each_append P [] more h k = k
 each_append P (e ∷ edges) more h k = (h.0, each_append P edges more h.1 k)
 
-each_last : (P : Seg → Type 0) (same : Bool) (p q : Pt) (edges : List Seg) → EachEdge (λ e. P (flipped e)) (edge_before same p q edges) → EachEdge P (edge_before same q p []) × EachEdge (λ e. P (flipped e)) edges
+each_last :
+    (P : Seg → Type 0) (same : Bool) (p q : Pt) (edges : List Seg) → EachEdge (λ e. P (flipped e)) (edge_before same p q edges)
+    → EachEdge P (edge_before same q p []) × EachEdge (λ e. P (flipped e)) edges
 unfolding flipped
 each_last P true p q edges h = (tt, h)
 each_last P false p q edges h = ((h.0, tt), h.1)
@@ -149,13 +160,17 @@ slope_flip e d =
     identity ((var 0 ⊖ var 2) ⊗ var 5 ⊖ (var 1 ⊖ var 3) ⊗ var 4) (minus ((var 2 ⊖ var 0) ⊗ var 5 ⊖ (var 3 ⊖ var 1) ⊗ var 4))
     (e.a.x ∷ e.a.y ∷ e.b.x ∷ e.b.y ∷ d.x ∷ d.y ∷ []) refl
 
-beside_left : (ring : List Pt) (b : Bool) (e : Seg) → HoldsBeside (λ q. is_inside q ring ≡ b) e hand.Left → HoldsBeside (λ q. is_inside q (reverse ring) ≡ b) (flipped e) hand.Right
+beside_left :
+    (ring : List Pt) (b : Bool) (e : Seg) → HoldsBeside (λ q. is_inside q ring ≡ b) e hand.Left
+    → HoldsBeside (λ q. is_inside q (reverse ring) ≡ b) (flipped e) hand.Right
 unfolding flipped
 beside_left ring b e h p between d to =
     let along = h p (between_flip between) d (omega (arith, linear, slope_flip e d, to)) in
     record { from = along.from; holds = λ n far q away. turned_inside q ring ∙ along.holds n far q away }
 
-beside_right : (ring : List Pt) (b : Bool) (e : Seg) → HoldsBeside (λ q. is_inside q ring ≡ b) e hand.Right → HoldsBeside (λ q. is_inside q (reverse ring) ≡ b) (flipped e) hand.Left
+beside_right :
+    (ring : List Pt) (b : Bool) (e : Seg) → HoldsBeside (λ q. is_inside q ring ≡ b) e hand.Right
+    → HoldsBeside (λ q. is_inside q (reverse ring) ≡ b) (flipped e) hand.Left
 unfolding flipped
 beside_right ring b e h p between d to =
     let along = h p (between_flip between) d (omega (arith, linear, slope_flip e d, to)) in
@@ -169,8 +184,10 @@ turned_hand ring h = record {
   sided = right_not_line;
   inside = each_at (λ e. HoldsBeside (λ q. is_inside q (reverse ring) ≡ true) e hand.Right) (edges_of (reverse ring))
       (each_turned (λ e. HoldsBeside (λ q. is_inside q (reverse ring) ≡ true) e hand.Right) ring
-      (each_from (λ e. HoldsBeside (λ q. is_inside q (reverse ring) ≡ true) (flipped e) hand.Right) (edges_of ring) (λ place e is. beside_left ring true e (h.inside place e is))));
+      (each_from (λ e. HoldsBeside (λ q. is_inside q (reverse ring) ≡ true) (flipped e) hand.Right) (edges_of ring)
+      (λ place e is. beside_left ring true e (h.inside place e is))));
   outside = each_at (λ e. HoldsBeside (λ q. is_inside q (reverse ring) ≡ false) e hand.Left) (edges_of (reverse ring))
       (each_turned (λ e. HoldsBeside (λ q. is_inside q (reverse ring) ≡ false) e hand.Left) ring
-      (each_from (λ e. HoldsBeside (λ q. is_inside q (reverse ring) ≡ false) (flipped e) hand.Left) (edges_of ring) (λ place e is. beside_right ring false e (h.outside place e is))));
+      (each_from (λ e. HoldsBeside (λ q. is_inside q (reverse ring) ≡ false) (flipped e) hand.Left) (edges_of ring)
+      (λ place e is. beside_right ring false e (h.outside place e is))));
 }

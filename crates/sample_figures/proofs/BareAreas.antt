@@ -6,7 +6,9 @@ use Rattle.plane_exact.specs.declared.point.Pt.{Pt}
 use Rattle.point_set.specs.declared.figure.Area.{Area}
 use Rattle.point_set.specs.declared.figure.Figure.{Figure}
 use Rattle.point_set.specs.Location.{rings_of}
-use Rattle.point_set.specs.Validity.{IsAtPlace, HasTooFewPoints, CrossesItself, SomeRing, Touch, HasTouchCycle, too_few_points, ring_cross, rings_share_edge, hole_outside, holes_overlap, disconnected, elements_share_edge, elements_overlap, IsValid}
+use Rattle.point_set.specs.Validity.{IsAtPlace, HasTooFewPoints, CrossesItself, SomeRing, Touch, HasTouchCycle, too_few_points, ring_cross}
+use Rattle.point_set.specs.Validity.{rings_share_edge, hole_outside, holes_overlap, disconnected, elements_share_edge, elements_overlap}
+use Rattle.point_set.specs.Validity.{IsValid}
 use Rattle.figure_laws.proofs.Lists.Places.{some_same}
 
 -- An area without holes whose shell has three positions or more and doesn't cross itself.

@@ -13,7 +13,8 @@ use Rattle.point_set.specs.declared.figure.Area.{Area}
 use Rattle.point_set.specs.Shape.{IsLineShaped, IsAreaShaped, IsRingShaped, IsWellShaped, positions_of_area}
 use Rattle.point_set.specs.Validity.{IsAtPlace, IsValid}
 use Rattle.figure_laws.proofs.Lists.Places.{some_same}
-use Rattle.sample_figures.specs.Samples.{IsSampleNumber, most_teeth, position_at, comb_ring, exchanged, rectangle_ring, area_inside, figure_of_ring, square_at, squares_and_line, points_in_row, figures_of_sample}
+use Rattle.sample_figures.specs.Samples.{IsSampleNumber, most_teeth, position_at, comb_ring, exchanged, rectangle_ring, area_inside}
+use Rattle.sample_figures.specs.Samples.{figure_of_ring, square_at, squares_and_line, points_in_row, figures_of_sample}
 use Rattle.sample_figures.proofs.BareAreas.{IsBare, HaveOwnGroups, bare_valid}
 use Rattle.sample_figures.proofs.SoundRings.{IsSoundRing, within_at, comb_sound, exchanged_comb_sound, comb_short, rectangle_sound}
 

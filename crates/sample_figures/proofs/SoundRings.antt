@@ -1,5 +1,6 @@
 -- The rings of the samples are well shaped, have three positions or more, and don't cross themselves.
-use Rattle.std.proofs.Common.{◌≡◌, ◌+◌, ◌-◌, ◌*◌, ◌<◌, ◌≤◌, ℕ, zero, suc, List, [], ◌∷◌, ◌++◌, map, length, refl, ap, sym, ◌∙◌, arith, length-append}
+use Rattle.std.proofs.Common.{◌≡◌, ◌+◌, ◌-◌, ◌*◌, ◌<◌, ◌≤◌, ℕ, zero, suc, List, [], ◌∷◌, ◌++◌, map, length, refl, ap, sym, ◌∙◌, arith}
+use Rattle.std.proofs.Common.{length-append}
 use Rattle.std.specs.Prelude.{Some, slice_get}
 use Rattle.std.specs.List.{All}
 use Rattle.std.specs.Option.{option_map}
@@ -14,7 +15,8 @@ use Rattle.point_set.specs.Shape.{IsClosed, IsRingShaped}
 use Rattle.point_set.specs.Validity.{CrossesItself, HasTooFewPoints}
 use Rattle.sample_figures.specs.Samples.{most_teeth, position_at, gap_left_of, over_tooth, over_teeth, comb_ring, exchanged, rectangle_ring}
 use Rattle.sample_figures.proofs.Joints.{MeetAtJoints, simple_by_joints}
-use Rattle.sample_figures.proofs.Steps.{Moves, steps_after, edges_by_steps, moves_across, moves_up, moves_exchanged, steps_exchanged, exchanged_edge}
+use Rattle.sample_figures.proofs.Steps.{Moves, steps_after, edges_by_steps, moves_across, moves_up, moves_exchanged, steps_exchanged}
+use Rattle.sample_figures.proofs.Steps.{exchanged_edge}
 use Rattle.sample_figures.proofs.Exchange.{joints_exchanged}
 use Rattle.sample_figures.proofs.BareAreas.{enough_by_three}
 use Rattle.sample_figures.proofs.Combs.{comb_joints, rectangle_joints, teeth_move}

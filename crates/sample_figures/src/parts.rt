@@ -1,5 +1,6 @@
 ghost use Rattle.std.specs.Prelude.{◌≡◌, ◌≤◌, ◌<◌, IfOk};
-ghost use Rattle.sample_figures.specs.Samples.{IsSampleNumber, area_inside, figure_of_ring, most_teeth, points_in_row, square_at, squares_and_line};
+ghost use Rattle.sample_figures.specs.Samples.{IsSampleNumber, area_inside, figure_of_ring, most_teeth, points_in_row, square_at};
+ghost use Rattle.sample_figures.specs.Samples.{squares_and_line};
 
 use crate::rings::{position, rectangle};
 use plane_exact::{NoMemory, Path};

@@ -1,5 +1,6 @@
 ghost use Rattle.std.specs.Prelude.{◌≡◌, ◌≤◌, ◌<◌, ◌++◌, map, IfOk, OnOk};
-ghost use Rattle.sample_figures.specs.Samples.{IsSampleNumber, comb_ring, exchanged as with_exchanged, most_teeth, over_tooth, position_at, rectangle_ring};
+ghost use Rattle.sample_figures.specs.Samples.{IsSampleNumber, comb_ring, exchanged as with_exchanged, most_teeth, over_tooth, position_at};
+ghost use Rattle.sample_figures.specs.Samples.{rectangle_ring};
 
 use plane_exact::{NoMemory, Path, Pt};
 use std::alloc::Global;

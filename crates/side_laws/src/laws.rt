@@ -20,6 +20,9 @@ pub fn law_inside_lies_on_one_hand()
 /// In a valid figure the inside of an area lies, at each edge of its shell, on the hand of the shell's inside, and at each
 /// edge of a hole on the other hand than the hole's inside.
 pub fn law_area_lies_on_the_hands_of_its_rings()
-    ensures shell { (f : Figure) → IsWellShaped f → IsValid f → (place : ℕ) (area : Area) → IsAtPlace f.areas place area → (side : Hand) → IsInsideHand area.shell side → (i : ℕ) (e : Seg) → IsAtPlace (edges_of area.shell) i e → IsAreaHand area e side }
-    ensures hole { (f : Figure) → IsWellShaped f → IsValid f → (place : ℕ) (area : Area) → IsAtPlace f.areas place area → (k : ℕ) (hole : List Pt) → IsAtPlace area.holes k hole → (side : Hand) → IsInsideHand hole side → (i : ℕ) (e : Seg) → IsAtPlace (edges_of hole) i e → IsAreaHand area e (other_hand side) }
+    ensures shell { (f : Figure) → IsWellShaped f → IsValid f → (place : ℕ) (area : Area) → IsAtPlace f.areas place area → (side : Hand)
+        → IsInsideHand area.shell side → (i : ℕ) (e : Seg) → IsAtPlace (edges_of area.shell) i e → IsAreaHand area e side }
+    ensures hole { (f : Figure) → IsWellShaped f → IsValid f → (place : ℕ) (area : Area) → IsAtPlace f.areas place area
+        → (k : ℕ) (hole : List Pt) → IsAtPlace area.holes k hole → (side : Hand) → IsInsideHand hole side → (i : ℕ) (e : Seg)
+        → IsAtPlace (edges_of hole) i e → IsAreaHand area e (other_hand side) }
 {}

@@ -16,7 +16,8 @@ use Rattle.point_set.specs.Shape.{IsRingShaped, IsAreaShaped}
 use Rattle.plane_laws.specs.Along.{HoldsAlong, IsInCone}
 use Rattle.point_set.specs.Germ.{IsGerm}
 use Rattle.point_set.specs.Edges.{IsOnEdgeAlone}
-use Rattle.point_set.specs.Validity.{IsAtPlace, CrossesItself, SomeRing, EdgesShareSegment, RingsShareSegment, HasHoleOutside, HasHolesThatOverlap, AreasShareSegment, AreasOverlap}
+use Rattle.point_set.specs.Validity.{IsAtPlace, CrossesItself, SomeRing, EdgesShareSegment, RingsShareSegment, HasHoleOutside}
+use Rattle.point_set.specs.Validity.{HasHolesThatOverlap, AreasShareSegment, AreasOverlap}
 
 -- The edges of an area's rings in order
 abbrev pub edges_in : Area → List Seg

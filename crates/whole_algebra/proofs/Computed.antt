@@ -36,7 +36,9 @@
 --         let second = .. in
 --         (stored w64 (difference first second) refl).is
 use mir.Syntax.{w128}
-use Rattle.std.proofs.Common.{w64, ℕ, ◌≡◌, ◌+◌, ◌*◌, ◌^◌, ◌≤◌, true, ltb, leb, ℤ, pos, ◌+ℤ◌, ◌-ℤ◌, ◌*ℤ◌, neg_ℤ, nat_abs, FitsSigned, to_z, of_z, ◌<ℤ◌, ◌≤ℤ◌, ◌↔◌, IsTrue, false, nat_eq, ap, refl, sym, ◌∙◌, subst, subst₂, mul-le-mul, to_z-of_z, le_trans, arith}
+use Rattle.std.proofs.Common.{w64, ℕ, ◌≡◌, ◌+◌, ◌*◌, ◌^◌, ◌≤◌, true, ltb, leb, ℤ, pos, ◌+ℤ◌, ◌-ℤ◌, ◌*ℤ◌, neg_ℤ, nat_abs, FitsSigned, to_z}
+use Rattle.std.proofs.Common.{of_z, ◌<ℤ◌, ◌≤ℤ◌, ◌↔◌, IsTrue, false, nat_eq, ap, refl, sym, ◌∙◌, subst, subst₂, mul-le-mul, to_z-of_z}
+use Rattle.std.proofs.Common.{le_trans, arith}
 use Rattle.std.proofs.lemmas.Int.{unsigned_abs-mul, fits_signed_from_abs}
 use borrow.Author.Differences.{ints}
 use borrow.Author.Tests.{eqb-true, eq-eqb, ltb-true, leb-true}

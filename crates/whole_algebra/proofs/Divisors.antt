@@ -6,7 +6,8 @@
 --
 -- where ex : x *ℤ w' ≡ x' *ℤ w, and ey likewise. `reduced_from_IsGcd` and `reduced_quotients` give what it asks for, from
 -- Euclid's algorithm by std's `IsGcd`.
-use Rattle.std.proofs.Common.{ℕ, zero, suc, ◌≡◌, ◌+◌, ◌*◌, ◌<◌, ◌≤◌, ◌/◌, ◌%◌, [], ◌∷◌, ℤ, pos, negsuc, ◌+ℤ◌, ◌-ℤ◌, ◌*ℤ◌, nat_abs, ◌<ℤ◌, ◌≤ℤ◌, int_div, int_rem, ap, refl, sym, ◌∙◌, subst, div-add-mod', mod-lt, one-mul, arith}
+use Rattle.std.proofs.Common.{ℕ, zero, suc, ◌≡◌, ◌+◌, ◌*◌, ◌<◌, ◌≤◌, ◌/◌, ◌%◌, [], ◌∷◌, ℤ, pos, negsuc, ◌+ℤ◌, ◌-ℤ◌, ◌*ℤ◌, nat_abs, ◌<ℤ◌}
+use Rattle.std.proofs.Common.{◌≤ℤ◌, int_div, int_rem, ap, refl, sym, ◌∙◌, subst, div-add-mod', mod-lt, one-mul, arith}
 use Prim.Native.Nat.{◌∣◌}
 use Rattle.std.specs.Int.{IsGcd}
 use Rattle.std.proofs.lemmas.Nat.Gcd.{dvd_trans, mod-eq-zero_of_dvd, IsGcd-from_zero, IsGcd-from_mod}

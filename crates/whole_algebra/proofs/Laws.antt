@@ -3,7 +3,9 @@
 -- `linear` is what `omega` needs for sums, negation and order alone: a product stays one unknown. Give it, as in
 --     omega (arith, linear, *ℤ-+ℤ a b c)
 use Rattle.std.proofs.Common.{ℕ, ◌≡◌, ◌+◌, ◌*◌, ℤ, pos, negsuc, ◌+ℤ◌, ◌-ℤ◌, ◌*ℤ◌, neg_ℤ, ap, sym, ◌∙◌, arith}
-use borrow.Author.Differences.{up, down, same_in, same_out, Apart-out, lt_T, le_T, lt_not, le_not, lt-true, lt-false, le-true, le-false, true-lt, false-lt, true-le, false-le, not_negative_out, lt_out, le_out, lt_in, le_in, below_in, at_most_in, not_negative_in, true_is_lt, false_is_lt, true_is_le, false_is_le, sum_is_lem, neg_is, product_is}
+use borrow.Author.Differences.{up, down, same_in, same_out, Apart-out, lt_T, le_T, lt_not, le_not, lt-true, lt-false, le-true, le-false}
+use borrow.Author.Differences.{true-lt, false-lt, true-le, false-le, not_negative_out, lt_out, le_out, lt_in, le_in, below_in, at_most_in}
+use borrow.Author.Differences.{not_negative_in, true_is_lt, false_is_lt, true_is_le, false_is_le, sum_is_lem, neg_is, product_is}
 use lib.IntN.{*ℤ_comm}
 
 pub ruleset linear = (

@@ -22,7 +22,8 @@
 --         identity (cross_p (var 2) (var 3) (var 0) (var 1)) (minus (cross_p (var 0) (var 1) (var 2) (var 3))) (a ∷ b ∷ c ∷ d ∷ []) refl
 --
 -- Evaluate an identity at random numbers first: a wrong one says only `false ≡ true`.
-use Rattle.std.proofs.Common.{ℕ, zero, suc, ◌≡◌, Bool, true, false, List, [], ◌∷◌, ℤ, pos, negsuc, ◌+ℤ◌, ◌-ℤ◌, ◌*ℤ◌, neg_ℤ, ap, refl, sym, ◌∙◌, arith}
+use Rattle.std.proofs.Common.{ℕ, zero, suc, ◌≡◌, Bool, true, false, List, [], ◌∷◌, ℤ, pos, negsuc, ◌+ℤ◌, ◌-ℤ◌, ◌*ℤ◌, neg_ℤ, ap, refl, sym}
+use Rattle.std.proofs.Common.{◌∙◌, arith}
 use Rattle.std.proofs.lemmas.Bool.{false≢true}
 use lib.IntN.{*ℤ_comm, zero-*ℤ, *ℤ-zero, +ℤ_idl, +ℤ_idr}
 use Rattle.whole_algebra.proofs.Laws.{linear, one-*ℤ, *ℤ_assoc, *ℤ-+ℤ, +ℤ-*ℤ, minus_one-*ℤ, *ℤ_left_comm}

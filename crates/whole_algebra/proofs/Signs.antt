@@ -3,7 +3,8 @@
 --
 --     apart : (a b : ℤ) → ¬ (a ≡ b) → pos 0 <ℤ ((a -ℤ b) *ℤ (a -ℤ b))
 --     apart a b n = square_pos (a -ℤ b) (λ e. n (omega (arith, linear, e)))
-use Rattle.std.proofs.Common.{◌≡◌, ◌*◌, ◌⊎◌, inl, inr, ℤ, pos, negsuc, ◌+ℤ◌, ◌-ℤ◌, ◌*ℤ◌, neg_ℤ, ◌<ℤ◌, ◌≤ℤ◌, ap, sym, ◌∙◌, lt→ltb, ltb→lt, mul-pos, arith}
+use Rattle.std.proofs.Common.{◌≡◌, ◌*◌, ◌⊎◌, inl, inr, ℤ, pos, negsuc, ◌+ℤ◌, ◌-ℤ◌, ◌*ℤ◌, neg_ℤ, ◌<ℤ◌, ◌≤ℤ◌, ap, sym, ◌∙◌, lt→ltb, ltb→lt}
+use Rattle.std.proofs.Common.{mul-pos, arith}
 use Rattle.std.proofs.lemmas.Int.{by_lt_z}
 use lib.IntN.{*ℤ_comm, zero-*ℤ}
 use lib.Signed.{<ℤ_irrefl, <ℤ-≤ℤ_trans}

@@ -1,5 +1,6 @@
 -- The rows of a built index: in order, filled in, and exactly those of the spans.
-use Rattle.std.proofs.Common.{◌≡◌, ℕ, ◌+◌, ◌<◌, pos, false, Ordering, Less, Equal, Greater, List, length, get_or, ap, refl, sym, ◌∙◌, subst, arith}
+use Rattle.std.proofs.Common.{◌≡◌, ℕ, ◌+◌, ◌<◌, pos, false, Ordering, Less, Equal, Greater, List, length, get_or, ap, refl, sym, ◌∙◌, subst}
+use Rattle.std.proofs.Common.{arith}
 use Rattle.std.specs.Prelude.{map}
 use Rattle.std.specs.List.{enumerate_from}
 use Rattle.std.specs.List.Sorted.{IsSorted, IsPermutation}

@@ -55,7 +55,8 @@ along_all : {P Q R : Point → Type 0} {v : Point} {d : Direction} → HoldsAlon
     → HoldsAlong (λ q. P q × Q q × R q) v d
 along_all h k l = record {
   from = (h.from + k.from) + l.from;
-  holds = λ n far q away. (h.holds n (omega (arith, far)) q away, k.holds n (omega (arith, far)) q away, l.holds n (omega (arith, far)) q away);
+  holds =
+      λ n far q away. (h.holds n (omega (arith, far)) q away, k.holds n (omega (arith, far)) q away, l.holds n (omega (arith, far)) q away);
 }
 
 -- ---- parts of near points

@@ -29,7 +29,8 @@ use Rattle.kind_laws.proofs.Cover.Germs.{HasCover, cover_of, cover_or_none}
 use Rattle.germ_laws.proofs.Rays.Places.{HasItem, item_at, in_sector_of}
 use Rattle.kind_laws.proofs.Cover.Sectors.{covered_at, is_exterior, not_exterior}
 use Rattle.germ_laws.proofs.Sectors.BesideRay.{sector_before_is_closed, sector_after_is_closed, bare_after}
-use Rattle.kind_laws.proofs.Cover.BesideRay.{not_uncovered, covered_where_interior, IsSectorCovered, interior_between, bare_left, bare_right}
+use Rattle.kind_laws.proofs.Cover.BesideRay.{not_uncovered, covered_where_interior, IsSectorCovered, interior_between, bare_left}
+use Rattle.kind_laws.proofs.Cover.BesideRay.{bare_right}
 use Rattle.fan_laws.proofs.Fans.Rays.{free_sector}
 use Rattle.fan_laws.proofs.Fans.Hands.{shape, sided, hand_after, hand_before, bare_along}
 use Rattle.germ_laws.proofs.Rays.Neighbours.{before_below, next_of_before, HasWithin, within_sector}

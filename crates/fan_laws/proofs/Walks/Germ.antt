@@ -31,7 +31,8 @@ use Rattle.fan_laws.proofs.Fans.Rays.{free_sector}
 use Rattle.fan_laws.proofs.Fans.Hands.{shape, sided, hand_after, bare_along, HasAreaRay, boundary_section}
 use Rattle.figure_laws.proofs.Lists.Search.{HasSome}
 use Rattle.fan_order.proofs.Laws.{find_along, walk_parts}
-use Rattle.germ_laws.proofs.Rays.Neighbours.{before_below, next_of_before, one_before, HasWithin, within_sector, IsBetween, between_rays, within_from, take_at, take_long}
+use Rattle.germ_laws.proofs.Rays.Neighbours.{before_below, next_of_before, one_before, HasWithin, within_sector, IsBetween, between_rays}
+use Rattle.germ_laws.proofs.Rays.Neighbours.{within_from, take_at, take_long}
 
 module _ (which : Which) (f : Figure) (v : Point) (sections : List Section) (rays : List Dir) (fan : IsFanOf which f v sections rays)
     (k : ℕ) (area : Area) (is : IsAtPlace f.areas k area) where

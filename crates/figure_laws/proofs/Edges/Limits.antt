@@ -114,7 +114,12 @@ length-edges_of (p ∷ others) = omega (arith, length-edges_after p others)
 -- with owners there are as many
 length-owned : (owner : Owner) (way : List Pt) → length (owned_by owner (edges_of way)) ≤ length way
 length-owned owner way =
-    omega (arith, length-edges_of way, length-map (edges_of way) (λ (seg : Seg). let edge : OwnedEdge = record { seg = seg; owner = owner } in edge))
+    omega (
+      arith,
+      length-edges_of way,
+      length-map (edges_of way)
+          (λ (seg : Seg). let edge : OwnedEdge = record { seg = seg; owner = owner } in edge),
+    )
 
 -- of lines
 length-lines : (place : ℕ) (lines : List (List Pt)) → length (edges_of_lines place lines) ≤ sum_by length lines

@@ -41,7 +41,8 @@ holding_edge (e ∷ edges) p h = go (is_on_edge p e) refl h (holding_edge edges 
 
 -- ---- along a list of lines
 -- a point of one of the lines is on the lines
-pub on_some_line : (lines : List (List Pt)) (k : ℕ) (way : List Pt) (p : Point) → IsAtPlace lines k way → is_on_edges p (edges_of way) ≡ true
+pub on_some_line :
+    (lines : List (List Pt)) (k : ℕ) (way : List Pt) (p : Point) → IsAtPlace lines k way → is_on_edges p (edges_of way) ≡ true
     → is_on_lines p lines ≡ true
 on_some_line [] k way p is on = cc
 on_some_line (line ∷ lines) zero way p is on =

@@ -36,5 +36,6 @@ few_lines f shaped =
 pub few_areas : (f : Figure) → IsWellShaped f → length f.areas ≤ 1048576
 few_areas f shaped =
     let few = shaped.few in
-    let areas = count_by_length positions_of_area f.areas (λ i d below. let long = (shaped.areas i d below).shell.long in omega (arith, long)) in
+    let areas = count_by_length positions_of_area f.areas
+    (λ i d below. let long = (shaped.areas i d below).shell.long in omega (arith, long)) in
     omega (arith, few, areas)

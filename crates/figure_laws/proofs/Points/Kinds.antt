@@ -8,7 +8,8 @@ use Rattle.point_set.specs.declared.dim_loc.DimLoc.{DimLoc}
 use Rattle.point_set.specs.declared.dim_loc.DimLoc.TheVariants as kind
 use Rattle.point_set.specs.declared.figure.Figure.{Figure}
 use Rattle.point_set.specs.declared.rule.Rule.{Rule}
-use Rattle.point_set.specs.Location.{is_covered, is_covered_by, IsAreaInterior, is_on_line, is_line_boundary, is_at_point, IsKind, part_of, IsLocation}
+use Rattle.point_set.specs.Location.{is_covered, is_covered_by, IsAreaInterior, is_on_line, is_line_boundary, is_at_point, IsKind, part_of}
+use Rattle.point_set.specs.Location.{IsLocation}
 
 pub interior_is_covered : {f : Figure} {p : Point} → IsAreaInterior f p → is_covered f p ≡ true
 interior_is_covered {f} {p} inside = inside.covered p (in_from_strictly_in inside.strictly)

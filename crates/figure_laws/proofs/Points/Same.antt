@@ -1,6 +1,7 @@
 -- Where a point lies is said of the point and not of its triple: every test and relation of the definitions answers alike for
 -- the same point.
-use Rattle.std.proofs.Common.{◌≡◌, ◌+◌, ℤ, pos, ◌*ℤ◌, ◌≤ℤ◌, Bool, true, false, not, ◌&&◌, ◌||◌, List, [], ◌∷◌, if◌then◌else◌, ap, refl, sym, ◌∙◌, arith}
+use Rattle.std.proofs.Common.{◌≡◌, ◌+◌, ℤ, pos, ◌*ℤ◌, ◌≤ℤ◌, Bool, true, false, not, ◌&&◌, ◌||◌, List, [], ◌∷◌, if◌then◌else◌, ap, refl, sym}
+use Rattle.std.proofs.Common.{◌∙◌, arith}
 use Rattle.std.specs.List.{list_any}
 use Rattle.std.specs.Prelude.{int_lt}
 use Rattle.std.proofs.lemmas.Bool.Decides.{Decides-like, same_from_decides}
@@ -21,7 +22,8 @@ use Rattle.point_set.specs.declared.figure.Figure.{Figure}
 use Rattle.point_set.specs.declared.rule.Rule.{Rule}
 use Rattle.point_set.specs.Rings.{edges_of, is_on_edge, is_on_edges, is_low, crosses_from, crosses, differ, is_odd, is_inside}
 use Rattle.point_set.specs.Lines.{is_at, is_at_some, count_at, ends_of_lines, is_boundary_count, is_still}
-use Rattle.point_set.specs.Location.{location, location_by, rings_of, edges_of_rings, is_not_exterior, is_covered, IsAreaInterior, is_on_line, is_line_boundary, is_at_point, IsKind, IsLocation}
+use Rattle.point_set.specs.Location.{location, location_by, rings_of, edges_of_rings, is_not_exterior, is_covered, IsAreaInterior}
+use Rattle.point_set.specs.Location.{is_on_line, is_line_boundary, is_at_point, IsKind, IsLocation}
 
 -- two tests that agree on each item agree on a list
 pub list_any_alike : {X : Type 0} (test test' : X → Bool) → ((x : X) → test x ≡ test' x) → (xs : List X)

@@ -1,5 +1,6 @@
 -- Finitely many positions hold no segment and no triangle, and leave some triangle free.
-use Rattle.std.proofs.Common.{◌≡◌, ℕ, ◌+◌, ◌<◌, ℤ, pos, ◌+ℤ◌, ◌-ℤ◌, ◌*ℤ◌, ◌<ℤ◌, ◌≤ℤ◌, Bool, true, false, List, [], ◌∷◌, refl, sym, ◌∙◌, arith}
+use Rattle.std.proofs.Common.{◌≡◌, ℕ, ◌+◌, ◌<◌, ℤ, pos, ◌+ℤ◌, ◌-ℤ◌, ◌*ℤ◌, ◌<ℤ◌, ◌≤ℤ◌, Bool, true, false, List, [], ◌∷◌, refl, sym, ◌∙◌}
+use Rattle.std.proofs.Common.{arith}
 use Rattle.std.proofs.lemmas.Bool.{or_from, true≢false, false_from_ne_true}
 use Rattle.std.proofs.lemmas.Int.{by_lt_z}
 use Rattle.whole_algebra.proofs.Laws.{linear, *ℤ_one, one-*ℤ, +ℤ-*ℤ}

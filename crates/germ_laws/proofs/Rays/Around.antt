@@ -1,5 +1,6 @@
 -- Every direction points along one of the rays in order, or lies strictly within one of their sectors.
-use Rattle.std.proofs.Common.{◌≡◌, inl, inr, ℕ, zero, suc, ◌+◌, ◌%◌, ◌<◌, ℤ, pos, negsuc, ◌*ℤ◌, neg_ℤ, ◌<ℤ◌, Bool, true, false, Less, List, [], ◌∷◌, length, ap, refl, sym, ◌∙◌, subst, arith}
+use Rattle.std.proofs.Common.{◌≡◌, inl, inr, ℕ, zero, suc, ◌+◌, ◌%◌, ◌<◌, ℤ, pos, negsuc, ◌*ℤ◌, neg_ℤ, ◌<ℤ◌, Bool, true, false, Less, List}
+use Rattle.std.proofs.Common.{[], ◌∷◌, length, ap, refl, sym, ◌∙◌, subst, arith}
 use Rattle.std.specs.List.{AllPairs}
 use Rattle.std.proofs.Math.Nat.{mod_self, mod-eq_of_lt}
 use Rattle.std.proofs.lemmas.Option.{slice_get_within, get_or_from_slice_get}
@@ -8,7 +9,8 @@ use Rattle.whole_algebra.proofs.Polynomials.{var, num, ◌⊖◌, ◌⊗◌, min
 use Rattle.whole_algebra.proofs.Certificates.{positive, vanishing, same, less, less_by, impossible_by, scaled, ◌⊞◌, ◌⊠◌}
 use Rattle.whole_algebra.proofs.Signs.{by_sign, <ℤ_apart}
 use Rattle.plane_laws.proofs.Directions.Angles.{no_bend, same_way_from}
-use Rattle.germ_laws.proofs.Rays.InTurn.{IsUp, up_from, down_from, AreInTurn, around_a, around_b, around_c, turn_on, IsAhead, ahead_from, in_turn}
+use Rattle.germ_laws.proofs.Rays.InTurn.{IsUp, up_from, down_from, AreInTurn, around_a, around_b, around_c, turn_on, IsAhead, ahead_from}
+use Rattle.germ_laws.proofs.Rays.InTurn.{in_turn}
 use Rattle.germ_laws.proofs.Sectors.Rays.{opposed, turned_way, way_to_left}
 use Rattle.plane_laws.specs.Directions.{Direction, past_half, bend_of, PointSameWay, IsStrictlyWithin}
 use Rattle.plane_exact.specs.Orders.{direction_of, compare_angles}

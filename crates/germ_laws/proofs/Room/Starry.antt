@@ -1,5 +1,6 @@
 -- Near a point all points in one direction are on the same edges.
-use Rattle.std.proofs.Common.{◌≡◌, ◌⊎◌, inl, inr, ℕ, ◌≤◌, ℤ, pos, ◌+ℤ◌, ◌-ℤ◌, ◌*ℤ◌, ◌<ℤ◌, ◌≤ℤ◌, Bool, true, false, [], ◌∷◌, ap, refl, sym, ◌∙◌, arith}
+use Rattle.std.proofs.Common.{◌≡◌, ◌⊎◌, inl, inr, ℕ, ◌≤◌, ℤ, pos, ◌+ℤ◌, ◌-ℤ◌, ◌*ℤ◌, ◌<ℤ◌, ◌≤ℤ◌, Bool, true, false, [], ◌∷◌, ap, refl, sym}
+use Rattle.std.proofs.Common.{◌∙◌, arith}
 use Rattle.std.proofs.lemmas.Bool.{true≢false}
 use Rattle.std.proofs.lemmas.Bool.Decides.{not_from_Decides}
 use Rattle.std.proofs.lemmas.Int.{by_lt_z}
@@ -21,7 +22,8 @@ use Rattle.point_set.specs.Rings.{is_on_edge}
 use Rattle.plane_laws.proofs.Near.Near.{IsNear, near_mix}
 use Rattle.ring_laws.proofs.Room.Edges.{HasRoom, room}
 pub use Rattle.ring_laws.proofs.Germs.Edges.{near_self}
-use Rattle.ring_laws.proofs.Germs.Edges.{cone_moved, shift_self, rise_self, on_true, ends_decide, direction_pointed, is_toward, Decides-is_toward}
+use Rattle.ring_laws.proofs.Germs.Edges.{cone_moved, shift_self, rise_self, on_true, ends_decide, direction_pointed, is_toward}
+use Rattle.ring_laws.proofs.Germs.Edges.{Decides-is_toward}
 use Rattle.ring_laws.proofs.Germs.Areas.{segment_within}
 
 -- ---- two points in one direction: one of them is on the way to the other

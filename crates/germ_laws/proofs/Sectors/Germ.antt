@@ -1,5 +1,6 @@
 -- The germ of an area in a sector: it is the same along all directions that lie strictly within one in which no edge runs.
-use Rattle.std.proofs.Common.{◌≡◌, ◌⊎◌, inl, inr, ℤ, pos, ◌+ℤ◌, ◌-ℤ◌, ◌*ℤ◌, neg_ℤ, ◌<ℤ◌, ◌≤ℤ◌, false, List, [], ◌∷◌, ap, refl, sym, ◌∙◌, subst, arith}
+use Rattle.std.proofs.Common.{◌≡◌, ◌⊎◌, inl, inr, ℤ, pos, ◌+ℤ◌, ◌-ℤ◌, ◌*ℤ◌, neg_ℤ, ◌<ℤ◌, ◌≤ℤ◌, false, List, [], ◌∷◌, ap, refl, sym, ◌∙◌}
+use Rattle.std.proofs.Common.{subst, arith}
 use Rattle.std.proofs.lemmas.Bool.{or_parts, true≢false}
 use lib.IntN.{*ℤ-zero, zero-*ℤ}
 use Rattle.im_matrix.specs.declared.Loc.{Loc}
@@ -55,7 +56,8 @@ pub toward : {v : Point} {d e : Direction} {a : Point} → ArePointed d e → Is
 toward {v} {d} {e} {a} n c = record { x = c.times *ℤ shift v a; y = c.times *ℤ rise v a; moves = λ z. n (zero_sum (cone_sum c) z.0 z.1) }
 
 -- it is a sum of the two
-pub toward_sum : {v : Point} {d e : Direction} {a : Point} (n : ArePointed d e) (c : IsInCone v d e a) → IsSum d e (toward n c).x (toward n c).y
+pub toward_sum :
+    {v : Point} {d e : Direction} {a : Point} (n : ArePointed d e) (c : IsInCone v d e a) → IsSum d e (toward n c).x (toward n c).y
 unfolding toward
 toward_sum n c = cone_sum c
 

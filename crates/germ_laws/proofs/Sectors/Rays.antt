@@ -1,5 +1,6 @@
 -- The sectors between neighbouring rays: no ray lies strictly within one, so the germ of an area is the same along all its directions.
-use Rattle.std.proofs.Common.{◌≡◌, ◌⊎◌, inl, inr, ℕ, ◌+◌, ◌%◌, ◌<◌, ℤ, pos, ◌-ℤ◌, ◌*ℤ◌, neg_ℤ, ◌<ℤ◌, ◌≤◌, Less, List, [], ◌∷◌, length, get_or, ap, refl, sym, ◌∙◌, subst, arith}
+use Rattle.std.proofs.Common.{◌≡◌, ◌⊎◌, inl, inr, ℕ, ◌+◌, ◌%◌, ◌<◌, ℤ, pos, ◌-ℤ◌, ◌*ℤ◌, neg_ℤ, ◌<ℤ◌, ◌≤◌, Less, List, [], ◌∷◌, length}
+use Rattle.std.proofs.Common.{get_or, ap, refl, sym, ◌∙◌, subst, arith}
 use Rattle.std.specs.List.{AllPairs, Any}
 use Rattle.std.proofs.Math.Nat.{mod_self, mod-eq_of_lt}
 use Rattle.std.proofs.lemmas.Bool.{cases_lt, cases_order, cases_eq}
@@ -131,12 +132,14 @@ module _ (rays : List Dir) (ascending : AllPairs (λ d e. compare_angles d e ≡
         after h (inl e) = at_second (i + 1) s_is e
         after h (inr (inl l)) = absurd (omega (arith, h, l))
         after h (inr (inr l)) = elsewhere
-            (in_turn (direction_of r) (direction_of s) (direction_of u) (in_order i (i + 1) r s (omega arith) r_is s_is) (in_order (i + 1) k s u l s_is u_is))
+            (in_turn (direction_of r) (direction_of s) (direction_of u) (in_order i (i + 1) r s (omega arith) r_is s_is)
+            (in_order (i + 1) k s u l s_is u_is))
 
         before : (k ≡ i) ⊎ ((k < i) ⊎ (i < k)) → IsOutside
         before (inl e) = at_first e
         before (inr (inl l)) = elsewhere
-            (turn_on (in_turn (direction_of u) (direction_of r) (direction_of s) (in_order k i u r l u_is r_is) (in_order i (i + 1) r s (omega arith) r_is s_is)))
+            (turn_on (in_turn (direction_of u) (direction_of r) (direction_of s) (in_order k i u r l u_is r_is)
+            (in_order i (i + 1) r s (omega arith) r_is s_is)))
         before (inr (inr l)) = after l (cases_order k (i + 1))
 
     off_last_sector : length rays ≤ (i + 1) → IsAtPlace rays 0 s → IsOutside
@@ -145,7 +148,9 @@ module _ (rays : List Dir) (ascending : AllPairs (λ d e. compare_angles d e ≡
         from_zero : k < i → (k ≡ 0) ⊎ (k ≡ 0 → ⊥) → IsOutside
         from_zero l (inl e) = at_second 0 s_is e
         from_zero l (inr n) = elsewhere
-            (turn_on (turn_on (in_turn (direction_of s) (direction_of u) (direction_of r) (in_order 0 k s u (omega (arith, n)) s_is u_is) (in_order k i u r l u_is r_is))))
+            (turn_on (turn_on
+            (in_turn (direction_of s) (direction_of u) (direction_of r) (in_order 0 k s u (omega (arith, n)) s_is u_is)
+            (in_order k i u r l u_is r_is))))
 
         before : (k ≡ i) ⊎ ((k < i) ⊎ (i < k)) → IsOutside
         before (inl e) = at_first e

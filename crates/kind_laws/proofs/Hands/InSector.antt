@@ -1,5 +1,6 @@
 -- The hand of an edge, seen from any of its points: beside the edge the whole sector is inside its area, or outside.
-use Rattle.std.proofs.Common.{◌≡◌, ◌⊎◌, inl, inr, ℕ, zero, suc, ◌+◌, ◌<◌, ℤ, pos, ◌+ℤ◌, ◌-ℤ◌, ◌*ℤ◌, neg_ℤ, ◌<ℤ◌, ◌≤ℤ◌, Bool, true, false, List, [], ◌∷◌, ap, refl, sym, ◌∙◌, subst, arith}
+use Rattle.std.proofs.Common.{◌≡◌, ◌⊎◌, inl, inr, ℕ, zero, suc, ◌+◌, ◌<◌, ℤ, pos, ◌+ℤ◌, ◌-ℤ◌, ◌*ℤ◌, neg_ℤ, ◌<ℤ◌, ◌≤ℤ◌, Bool, true, false}
+use Rattle.std.proofs.Common.{List, [], ◌∷◌, ap, refl, sym, ◌∙◌, subst, arith}
 use Rattle.std.specs.Prelude.{slice_get}
 use Rattle.std.proofs.lemmas.Bool.{true≢false, cases_order, cases_eq}
 use Rattle.im_matrix.specs.declared.Loc.{Loc}
@@ -9,7 +10,8 @@ use Rattle.whole_algebra.proofs.Polynomials.{var, num, ◌⊕◌, ◌⊖◌, ◌
 use Rattle.whole_algebra.proofs.Certificates.{natural, positive, same, same_from, less_by, whole, scaled, ◌⊞◌, ◌⊠◌}
 use Rattle.whole_algebra.proofs.Signs.{by_sign, pos_nonzero, zero_factor}
 use Rattle.plane_laws.proofs.Segments.Mixes.{start_on_segment, end_on_segment, segment_same, on_from_strictly_between}
-use Rattle.plane_laws.proofs.Segments.On.{Decides-is_on_segment, on_segment_of_same, mix_shift_start, mix_shift_end, mix_rise_start, mix_rise_end}
+use Rattle.plane_laws.proofs.Segments.On.{Decides-is_on_segment, on_segment_of_same, mix_shift_start, mix_shift_end, mix_rise_start}
+use Rattle.plane_laws.proofs.Segments.On.{mix_rise_end}
 use Rattle.plane_laws.proofs.Points.Same.{same_refl, same_sym, same_trans}
 use Rattle.plane_exact.proofs.Laws.{shift-positions, rise-positions}
 use Rattle.plane_laws.specs.Plane.{Point, IsSamePoint, IsOnSegment, IsStrictlyBetween, rise, shift}

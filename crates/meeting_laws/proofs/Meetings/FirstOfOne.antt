@@ -26,7 +26,8 @@ use Rattle.plane_laws.proofs.Near.Parted.{turn_ends}
 use Rattle.std.proofs.lemmas.Bool.{true≢false, false_from_ne_true, or_left}
 use Rattle.meeting_laws.specs.Meetings.{IsFirstMeeting, LawFirstOfOne, LawFirstMeeting}
 use Rattle.meeting_laws.proofs.Meetings.FirstMeeting.{first_meeting, of_one}
-use Rattle.meeting_laws.proofs.Ways.PointsInOrder.{at_most_or, before_at_most, not_before, both_at_most, before_then, at_most_trans, at_most_before}
+use Rattle.meeting_laws.proofs.Ways.PointsInOrder.{at_most_or, before_at_most, not_before, both_at_most, before_then, at_most_trans}
+use Rattle.meeting_laws.proofs.Ways.PointsInOrder.{at_most_before}
 use Rattle.plane_laws.proofs.Segments.Crossings.{apart_left, apart_right, crossing_w, on_first, on_second, only}
 
 -- nothing of the way from p to t is between c and d, or q is the first that is

@@ -55,7 +55,8 @@ ahead : (c d p h : Point) → IsBefore c d → IsBefore p h → IsOnSegment c d 
 ahead c d p h up before on not_c not_p level line = go (at_most_or c p) (on_segment-AtMost c d h up on)
   where
     go : AtMost c p ⊎ IsBefore p c → AtMost c h × AtMost h d → Another c d p h
-    go (inl k) ends = at_point c d p h (on_segment-from_AtMost c d p up level k (at_most_trans p h d (before_at_most p h before) ends.1)) not_p
+    go (inl k) ends =
+        at_point c d p h (on_segment-from_AtMost c d p up level k (at_most_trans p h d (before_at_most p h before) ends.1)) not_p
     go (inr k) ends = at_end c (start_on_segment c d) (on_segment-from_AtMost p h c before line (before_at_most p c k) ends.0) not_c
 
 -- the same with p behind h
@@ -64,9 +65,11 @@ behind : (c d p h : Point) → IsBefore c d → IsBefore h p → IsOnSegment c d
 behind c d p h up before on not_d not_p level line = go (at_most_or p d) (on_segment-AtMost c d h up on)
   where
     go : AtMost p d ⊎ IsBefore d p → AtMost c h × AtMost h d → Another c d p h
-    go (inl k) ends = at_point c d p h (on_segment-from_AtMost c d p up level (at_most_trans c h p ends.0 (before_at_most h p before)) k) not_p
+    go (inl k) ends =
+        at_point c d p h (on_segment-from_AtMost c d p up level (at_most_trans c h p ends.0 (before_at_most h p before)) k) not_p
     go (inr k) ends =
-        at_end d (segment_flip (start_on_segment d c)) (segment_flip (on_segment-from_AtMost h p d before line ends.1 (before_at_most d p k)))
+        at_end d (segment_flip (start_on_segment d c))
+        (segment_flip (on_segment-from_AtMost h p d before line ends.1 (before_at_most d p k)))
         not_d
 
 -- what is after is before, the other way round

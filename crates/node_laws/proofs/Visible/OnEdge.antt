@@ -6,7 +6,8 @@ use Rattle.whole_algebra.proofs.Polynomials.{var, num, ◌⊗◌, minus}
 use Rattle.whole_algebra.proofs.Certificates.{natural, positive, square, same, at_most_by, scaled, ◌⊞◌, ◌⊠◌}
 use Rattle.whole_algebra.proofs.Signs.{≤ℤ_antisymm, square_nonneg, square_zero}
 use Rattle.plane_laws.proofs.Segments.Mixes.{start_on_segment, end_on_segment, segment_flip, segment_same, on_from_strictly_between}
-use Rattle.plane_laws.proofs.Segments.On.{Decides-is_on_segment, same_from_steps, mix_shift_start, mix_shift_end, mix_rise_start, mix_rise_end}
+use Rattle.plane_laws.proofs.Segments.On.{Decides-is_on_segment, same_from_steps, mix_shift_start, mix_shift_end, mix_rise_start}
+use Rattle.plane_laws.proofs.Segments.On.{mix_rise_end}
 use Rattle.plane_laws.proofs.Points.Same.{same_refl, same_sym, same_trans}
 use Rattle.plane_laws.specs.Plane.{Point, IsSamePoint, IsOnSegment, IsStrictlyBetween, shift, rise, is_on_segment}
 use Rattle.plane_exact.specs.Places.{point_of}

@@ -11,7 +11,8 @@ use Rattle.whole_algebra.proofs.Certificates.{impossible_by, scaled, ◌⊞◌, 
 use Rattle.whole_algebra.proofs.Signs.{by_sign, <ℤ_weaken, <ℤ_apart, zero_factor, pos_nonzero}
 use Rattle.plane_laws.proofs.Segments.Mixes.{segment_flip, segment_same}
 use Rattle.plane_laws.proofs.Points.Same.{same_refl, same_sym}
-use Rattle.plane_laws.proofs.Turns.Turns.{OneSign-pos, OneSign-zero, OneSign-nonneg, turn_same, turn_same_third, turn_cycle, turn_swap, OneSign}
+use Rattle.plane_laws.proofs.Turns.Turns.{OneSign-pos, OneSign-zero, OneSign-nonneg, turn_same, turn_same_third, turn_cycle, turn_swap}
+use Rattle.plane_laws.proofs.Turns.Turns.{OneSign}
 use Rattle.plane_laws.proofs.Near.Parted.{turn_ends}
 use Rattle.plane_laws.proofs.Segments.Onto.{turn-mix}
 use Rattle.plane_laws.specs.Plane.{Point, IsSamePoint, IsMix, IsOnSegment, IsStrictlyBetween, turn}

@@ -7,7 +7,8 @@ use Rattle.whole_algebra.proofs.Polynomials.{var, ◌⊖◌, ◌⊗◌, minus}
 use Rattle.whole_algebra.proofs.Certificates.{positive, less, same, same_from, less_by, scaled, ◌⊞◌, ◌⊠◌}
 use Rattle.plane_laws.specs.Plane.{Point, IsSamePoint, shift, rise}
 use Rattle.plane_laws.specs.Orders.{compare_fractions, compare_points, IsBefore}
-use Rattle.whole_algebra.proofs.Comparisons.{same_int_cmp, int_cmp_less, less_int_cmp, equal_int_cmp, then_less_from, then_less_gives, then_equal_from, then_equal_gives}
+use Rattle.whole_algebra.proofs.Comparisons.{same_int_cmp, int_cmp_less, less_int_cmp, equal_int_cmp, then_less_from, then_less_gives}
+use Rattle.whole_algebra.proofs.Comparisons.{then_equal_from, then_equal_gives}
 
 -- ---- fractions
 pub compare_fractions-trans : (x w u v s t : ℤ) → pos 0 <ℤ w → pos 0 <ℤ v → pos 0 <ℤ t → compare_fractions x w u v ≡ Less

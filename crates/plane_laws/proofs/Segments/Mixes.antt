@@ -7,7 +7,8 @@ use Rattle.whole_algebra.proofs.Certificates.{same, same_from, scaled, ◌⊞◌
 use Rattle.whole_algebra.proofs.Signs.{pos-*-pos, nonneg-*-nonneg, <ℤ_weaken}
 use Rattle.plane_laws.proofs.Points.Same.{same_sym, same_trans}
 use Rattle.plane_laws.proofs.Turns.Turns.{OneSign-zero, turn_same}
-use Rattle.plane_laws.specs.Plane.{Point, IsSamePoint, IsMix, IsMixOfThree, IsMean, IsOnSegment, IsStrictlyBetween, IsInTriangle, IsStrictlyInTriangle}
+use Rattle.plane_laws.specs.Plane.{Point, IsSamePoint, IsMix, IsMixOfThree, IsMean, IsOnSegment, IsStrictlyBetween, IsInTriangle}
+use Rattle.plane_laws.specs.Plane.{IsStrictlyInTriangle}
 
 -- ---- the order of the ends, and the ends themselves
 pub mix_flip : {a b p : Point} {s t : ℤ} → IsMix a b p s t → IsMix b a p t s

@@ -1,5 +1,6 @@
 -- The computed test of lying on a segment is the relation; segments of two same ends; signs as tests.
-use Rattle.std.proofs.Common.{negsuc, ◌≡◌, ◌⊎◌, inl, inr, ℤ, pos, ◌+ℤ◌, ◌-ℤ◌, ◌*ℤ◌, neg_ℤ, ◌<ℤ◌, ◌≤ℤ◌, ◌&&◌, [], ◌∷◌, ap, refl, sym, ◌∙◌, subst, arith}
+use Rattle.std.proofs.Common.{negsuc, ◌≡◌, ◌⊎◌, inl, inr, ℤ, pos, ◌+ℤ◌, ◌-ℤ◌, ◌*ℤ◌, neg_ℤ, ◌<ℤ◌, ◌≤ℤ◌, ◌&&◌, [], ◌∷◌, ap, refl, sym, ◌∙◌}
+use Rattle.std.proofs.Common.{subst, arith}
 use Rattle.std.specs.Bool.{Decides}
 use Rattle.std.specs.Ordering.{int_eq}
 use Rattle.std.specs.Prelude.{int_le, int_lt}
@@ -9,7 +10,8 @@ use lib.IntN.{zero-*ℤ, *ℤ-zero, *ℤ_comm}
 use Rattle.whole_algebra.proofs.Laws.{linear}
 use Rattle.whole_algebra.proofs.Polynomials.{var, num, ◌⊕◌, ◌⊖◌, ◌⊗◌, minus, identity}
 use Rattle.whole_algebra.proofs.Certificates.{same, same_from, scaled, ◌⊞◌}
-use Rattle.whole_algebra.proofs.Signs.{by_sign, nonneg_factor, nonpos_factor, zero_factor, nonneg-*-nonneg, nonneg-*-nonpos, nonneg-+-nonneg, sum_zero, pos_nonzero, <ℤ_weaken, <ℤ_apart}
+use Rattle.whole_algebra.proofs.Signs.{by_sign, nonneg_factor, nonpos_factor, zero_factor, nonneg-*-nonneg, nonneg-*-nonpos}
+use Rattle.whole_algebra.proofs.Signs.{nonneg-+-nonneg, sum_zero, pos_nonzero, <ℤ_weaken, <ℤ_apart}
 use Rattle.plane_laws.proofs.Points.Same.{same_refl, same_sym}
 use Rattle.plane_laws.proofs.Turns.Turns.{point_at, turn_poly, ◌then◌}
 use Rattle.plane_laws.proofs.Segments.Mixes.{segment_same, start_on_segment}

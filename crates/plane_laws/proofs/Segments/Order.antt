@@ -1,5 +1,6 @@
 -- The order along a segment is that of points by x and then by y, or its reverse where the segment goes back.
-use Rattle.std.proofs.Common.{Ordering, Less, Equal, Greater, subst, ◌≤ℤ◌, ◌≡◌, ◌⊎◌, inl, inr, ℤ, pos, ◌+ℤ◌, ◌-ℤ◌, ◌*ℤ◌, neg_ℤ, ◌<ℤ◌, [], ◌∷◌, refl, sym, ◌∙◌, ap, arith}
+use Rattle.std.proofs.Common.{Ordering, Less, Equal, Greater, subst, ◌≤ℤ◌, ◌≡◌, ◌⊎◌, inl, inr, ℤ, pos, ◌+ℤ◌, ◌-ℤ◌, ◌*ℤ◌, neg_ℤ, ◌<ℤ◌, []}
+use Rattle.std.proofs.Common.{◌∷◌, refl, sym, ◌∙◌, ap, arith}
 use Rattle.std.specs.Cmp.{IsTotalOrder}
 use Rattle.std.proofs.lemmas.Cmp.{int_cmp_total}
 use Rattle.std.proofs.lemmas.Int.{by_lt_z}
@@ -8,14 +9,16 @@ use Rattle.plane_laws.proofs.Points.Same.{same_sym}
 use Rattle.plane_laws.proofs.Segments.On.{same_from_steps, mix_shift_start, mix_rise_start}
 use Rattle.whole_algebra.proofs.Certificates.{vanishing, positive, natural, impossible_by, ◌⊠◌, same, same_from, scaled, ◌⊞◌}
 use lib.Signed.{<ℤ_irrefl, <ℤ-≤ℤ_trans}
-use Rattle.whole_algebra.proofs.Signs.{nonneg-+-nonneg, nonneg-*-nonneg, pos_factor, <ℤ_weaken, by_sign, pos-*-pos, neg-*-pos, square_pos, square_nonneg, pos-+-nonneg, nonneg-+-pos, <ℤ_apart}
+use Rattle.whole_algebra.proofs.Signs.{nonneg-+-nonneg, nonneg-*-nonneg, pos_factor, <ℤ_weaken, by_sign, pos-*-pos, neg-*-pos, square_pos}
+use Rattle.whole_algebra.proofs.Signs.{square_nonneg, pos-+-nonneg, nonneg-+-pos, <ℤ_apart}
 use Rattle.std.specs.Ordering.{int_cmp, ordering_then}
 use Rattle.whole_algebra.proofs.Laws.{linear}
 use Rattle.whole_algebra.proofs.Polynomials.{var, num, ◌⊕◌, ◌⊖◌, ◌⊗◌, minus, identity}
 use lib.IntN.{*ℤ-zero, zero-*ℤ}
 use Rattle.plane_laws.specs.Orders.{compare_points, compare_along, along, IsBefore}
 use Rattle.whole_algebra.proofs.Comparisons.{greater_int_cmp, int_cmp_less, int_cmp_equal, int_cmp_greater, same_int_cmp, then_second}
-use Rattle.plane_laws.proofs.Points.Order.{IsBefore-from, IsBefore-gives, compare_fractions-trans, compare_fractions-congr, compare_points_same, same_compare_points}
+use Rattle.plane_laws.proofs.Points.Order.{IsBefore-from, IsBefore-gives, compare_fractions-trans, compare_fractions-congr}
+use Rattle.plane_laws.proofs.Points.Order.{compare_points_same, same_compare_points}
 use Rattle.plane_laws.proofs.Segments.Onto.{shift_p}
 
 -- how far the second of two mixes is ahead of the first, in one of the coordinates

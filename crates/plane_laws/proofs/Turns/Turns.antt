@@ -1,5 +1,6 @@
 -- The turn of three points: its symmetries, and that it keeps its sign from one triple to another of the same point.
-use Rattle.std.proofs.Common.{◌≤ℤ◌, zero, negsuc, arith, ◌↔◌, ◌<ℤ◌, ◌-ℤ◌, subst, ◌≡◌, ℕ, suc, ℤ, pos, ◌*ℤ◌, neg_ℤ, List, [], ◌∷◌, ap, refl, sym, ◌∙◌}
+use Rattle.std.proofs.Common.{◌≤ℤ◌, zero, negsuc, arith, ◌↔◌, ◌<ℤ◌, ◌-ℤ◌, subst, ◌≡◌, ℕ, suc, ℤ, pos, ◌*ℤ◌, neg_ℤ, List, [], ◌∷◌, ap, refl}
+use Rattle.std.proofs.Common.{sym, ◌∙◌}
 use Rattle.std.specs.Int.{int_signum}
 use lib.Signed.{<ℤ_irrefl}
 use lib.IntN.{zero-*ℤ, *ℤ_comm}

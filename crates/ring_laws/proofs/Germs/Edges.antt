@@ -1,6 +1,7 @@
 -- Germs and edges: which edges through v come between two directions, and that what lies between two directions free of them is
 -- met by no edge near v.
-use Rattle.std.proofs.Common.{◌≡◌, ℕ, ◌+◌, ◌<◌, ℤ, pos, ◌+ℤ◌, ◌-ℤ◌, ◌*ℤ◌, neg_ℤ, ◌<ℤ◌, ◌≤ℤ◌, Bool, true, false, ◌&&◌, List, [], ◌∷◌, ap, refl, sym, ◌∙◌, arith}
+use Rattle.std.proofs.Common.{◌≡◌, ℕ, ◌+◌, ◌<◌, ℤ, pos, ◌+ℤ◌, ◌-ℤ◌, ◌*ℤ◌, neg_ℤ, ◌<ℤ◌, ◌≤ℤ◌, Bool, true, false, ◌&&◌, List, [], ◌∷◌, ap}
+use Rattle.std.proofs.Common.{refl, sym, ◌∙◌, arith}
 use Rattle.std.specs.Prelude.{int_lt}
 use Rattle.std.specs.Bool.{Decides}
 use Rattle.std.specs.Ordering.{int_eq}
@@ -10,7 +11,8 @@ use lib.IntN.{*ℤ-zero, zero-*ℤ}
 use Rattle.whole_algebra.proofs.Laws.{linear}
 use Rattle.whole_algebra.proofs.Polynomials.{var, num, ◌⊕◌, ◌⊖◌, ◌⊗◌, minus, identity}
 use Rattle.whole_algebra.proofs.Certificates.{positive, same, same_from, less_by, scaled, ◌⊞◌, ◌⊠◌}
-use Rattle.whole_algebra.proofs.Signs.{by_sign, <ℤ_weaken, pos-*-pos, nonneg-*-nonneg, zero_factor, pos_nonzero, square_pos, square_nonneg, <ℤ_apart, pos-+-nonneg, nonneg-+-pos}
+use Rattle.whole_algebra.proofs.Signs.{by_sign, <ℤ_weaken, pos-*-pos, nonneg-*-nonneg, zero_factor, pos_nonzero, square_pos, square_nonneg}
+use Rattle.whole_algebra.proofs.Signs.{<ℤ_apart, pos-+-nonneg, nonneg-+-pos}
 use Rattle.plane_laws.proofs.Segments.On.{Decides-is_on_segment, Decides-int_lt}
 use Rattle.plane_laws.specs.Plane.{Point, IsOnSegment, rise, shift}
 use Rattle.plane_exact.specs.Places.{point_of}

@@ -5,7 +5,8 @@ use Rattle.std.specs.Bool.{MatchBool}
 use Rattle.whole_algebra.proofs.Laws.{linear}
 use Rattle.point_set.specs.Rings.{crosses_from, differ}
 use Rattle.ring_laws.proofs.Parity.Tests.{tells_lt, same_tests, differ_none, differ_self}
-use Rattle.ring_laws.proofs.Parity.Cases.{Heights, AreWeights, mirrored, low_high, low_high', low_mid, low_mid', mid_high, mid_high', mid_mid}
+use Rattle.ring_laws.proofs.Parity.Cases.{Heights, AreWeights, mirrored, low_high, low_high', low_mid, low_mid', mid_high, mid_high'}
+use Rattle.ring_laws.proofs.Parity.Cases.{mid_mid}
 
 -- a point is beside the segment from p to q: higher than p, at most as high as q, and with a turn that says strictly right of the segment
 abbrev pub beside_by : Bool → Bool → ℤ → Bool

@@ -9,7 +9,8 @@ use lib.Signed.{<ℤ_irrefl, <ℤ-≤ℤ_trans}
 use Rattle.whole_algebra.proofs.Laws.{linear}
 use Rattle.whole_algebra.proofs.Polynomials.{var, ◌⊖◌, ◌⊗◌, minus}
 use Rattle.whole_algebra.proofs.Certificates.{same, same_from}
-use Rattle.whole_algebra.proofs.Signs.{nonpos_factor, nonneg_factor, nonneg-*-nonneg, nonneg-*-nonpos, nonpos-*-nonneg, nonpos-*-nonpos, pos-*-pos, neg-*-pos, <ℤ_weaken, ≤ℤ-<ℤ_trans}
+use Rattle.whole_algebra.proofs.Signs.{nonpos_factor, nonneg_factor, nonneg-*-nonneg, nonneg-*-nonpos, nonpos-*-nonneg, nonpos-*-nonpos}
+use Rattle.whole_algebra.proofs.Signs.{pos-*-pos, neg-*-pos, <ℤ_weaken, ≤ℤ-<ℤ_trans}
 
 pub record Heights (pa pb qa qb h ab sa sb tp tq : ℤ) : Type 0 where
   pub level : pos 0 ≤ℤ h

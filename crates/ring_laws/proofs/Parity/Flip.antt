@@ -1,6 +1,7 @@
 -- Across an edge: where the segment from p to q cuts the edge from a to b, away from all four ends, the ray of p crosses the
 -- edge once more or once less than that of q, but for the ends beside the segment.
-use Rattle.std.proofs.Common.{◌≡◌, ℤ, pos, ◌+ℤ◌, ◌-ℤ◌, ◌*ℤ◌, neg_ℤ, ◌<ℤ◌, ◌≤ℤ◌, Bool, true, false, not, ◌&&◌, [], ◌∷◌, ap, refl, sym, ◌∙◌, subst, arith}
+use Rattle.std.proofs.Common.{◌≡◌, ℤ, pos, ◌+ℤ◌, ◌-ℤ◌, ◌*ℤ◌, neg_ℤ, ◌<ℤ◌, ◌≤ℤ◌, Bool, true, false, not, ◌&&◌, [], ◌∷◌, ap, refl, sym, ◌∙◌}
+use Rattle.std.proofs.Common.{subst, arith}
 use Rattle.std.specs.Prelude.{int_lt}
 use Rattle.std.proofs.lemmas.Int.{by_lt_z}
 use Rattle.std.specs.Bool.{MatchBool}
@@ -11,7 +12,8 @@ use lib.Signed.{<ℤ_irrefl, <ℤ-≤ℤ_trans}
 use Rattle.whole_algebra.proofs.Laws.{linear}
 use Rattle.whole_algebra.proofs.Polynomials.{var, ◌⊕◌, ◌⊖◌, ◌⊗◌, identity}
 use Rattle.whole_algebra.proofs.Certificates.{same, same_from, scaled, ◌⊞◌}
-use Rattle.whole_algebra.proofs.Signs.{zero_factor, nonpos_factor, pos_factor, pos_nonzero, <ℤ_apart, <ℤ_weaken, pos-*-pos, pos-*-neg, neg-*-pos, nonneg-*-nonneg, nonneg-*-nonpos, nonpos-*-nonneg, nonpos-*-nonpos}
+use Rattle.whole_algebra.proofs.Signs.{zero_factor, nonpos_factor, pos_factor, pos_nonzero, <ℤ_apart, <ℤ_weaken, pos-*-pos, pos-*-neg}
+use Rattle.whole_algebra.proofs.Signs.{neg-*-pos, nonneg-*-nonneg, nonneg-*-nonpos, nonpos-*-nonneg, nonpos-*-nonpos}
 use Rattle.plane_laws.proofs.Turns.Turns.{point_at, turn_poly, ◌then◌, turn_swap}
 use Rattle.plane_laws.proofs.Segments.On.{mix_turn}
 use Rattle.plane_laws.specs.Plane.{Point, IsMix, IsOnSegment, IsStrictlyBetween, turn, rise, shift}

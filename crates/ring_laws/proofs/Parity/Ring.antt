@@ -1,6 +1,7 @@
 -- Crossing parity along a ring: the ends beside a segment cancel, so the number of edges that the ray of p crosses is odd
 -- exactly where that of q is, but for the edges that the segment from p to q cuts.
-use Rattle.std.proofs.Common.{◌≡◌, ℕ, suc, ◌-◌, ℤ, pos, ◌≤ℤ◌, ◌<ℤ◌, Bool, true, false, not, List, [], ◌∷◌, ◌++◌, length, ◌⊎◌, inl, inr, ◌&&◌, ap, refl, sym, ◌∙◌, subst, arith}
+use Rattle.std.proofs.Common.{◌≡◌, ℕ, suc, ◌-◌, ℤ, pos, ◌≤ℤ◌, ◌<ℤ◌, Bool, true, false, not, List, [], ◌∷◌, ◌++◌, length, ◌⊎◌, inl, inr}
+use Rattle.std.proofs.Common.{◌&&◌, ap, refl, sym, ◌∙◌, subst, arith}
 use Rattle.std.specs.Prelude.{Some, slice_get}
 use Rattle.std.proofs.lemmas.Int.{by_lt_z}
 use Rattle.std.proofs.lemmas.Bool.{or_parts, or_from, true≢false, false_from_ne_true}
@@ -13,7 +14,8 @@ use Rattle.plane_laws.specs.Plane.{Point, IsOnSegment, IsStrictlyBetween, turn, 
 use Rattle.plane_exact.specs.Places.{point_of}
 use Rattle.plane_exact.specs.declared.point.Pt.{Pt}
 use Rattle.plane_exact.specs.declared.point.Seg.{Seg}
-use Rattle.point_set.specs.Rings.{is_same_position, edge_before, edges_after, edges_of, is_on_edge, is_on_edges, crosses, differ, is_odd, is_inside}
+use Rattle.point_set.specs.Rings.{is_same_position, edge_before, edges_after, edges_of, is_on_edge, is_on_edges, crosses, differ, is_odd}
+use Rattle.point_set.specs.Rings.{is_inside}
 use Rattle.point_set.specs.Lines.{last_after}
 use Rattle.point_set.specs.Shape.{IsClosed}
 use Rattle.ring_laws.proofs.Parity.Tests.{differ_none, differ_self, differ_mix, differ_join}

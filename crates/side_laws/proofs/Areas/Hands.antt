@@ -1,5 +1,6 @@
 -- The inside of an area lies on the hand of its shell's inside at the shell's edges, and on the other hand at a hole's edges.
-use Rattle.std.proofs.Common.{◌≡◌, ◌⊎◌, inl, inr, ℕ, zero, suc, ◌+◌, ◌<◌, Bool, true, false, List, [], ◌∷◌, ◌++◌, ap, refl, sym, ◌∙◌, subst, arith}
+use Rattle.std.proofs.Common.{◌≡◌, ◌⊎◌, inl, inr, ℕ, zero, suc, ◌+◌, ◌<◌, Bool, true, false, List, [], ◌∷◌, ◌++◌, ap, refl, sym, ◌∙◌, subst}
+use Rattle.std.proofs.Common.{arith}
 use Rattle.std.specs.List.{list_any}
 use Rattle.std.specs.Prelude.{slice_get}
 use Rattle.std.proofs.lemmas.Bool.{or_parts, or_from, or_left, or_right, cases_eq, cases_order, false_from_ne_true}
@@ -17,7 +18,8 @@ use Rattle.point_set.specs.declared.figure.Figure.{Figure}
 use Rattle.point_set.specs.Rings.{edges_of, is_on_edge, is_on_edges, is_inside}
 use Rattle.point_set.specs.Location.{location_by, rings_of, edges_of_rings}
 use Rattle.point_set.specs.Shape.{IsClosed, IsRingShaped, IsAreaShaped, IsWellShaped}
-use Rattle.point_set.specs.Validity.{IsAtPlace, IsOnEdge, ShareSegment, RingsShareSegment, HasHoleOutside, HasHolesThatOverlap, IsValid, rings_share_edge, hole_outside, holes_overlap}
+use Rattle.point_set.specs.Validity.{IsAtPlace, IsOnEdge, ShareSegment, RingsShareSegment, HasHoleOutside, HasHolesThatOverlap, IsValid}
+use Rattle.point_set.specs.Validity.{rings_share_edge, hole_outside, holes_overlap}
 use Rattle.plane_laws.specs.Along.{IsAway, HoldsAlong}
 use Rattle.point_set.specs.Germ.{IsGerm}
 use Rattle.point_set.specs.Sides.{slope, PointsTo, other_hand, IsInsideHand}

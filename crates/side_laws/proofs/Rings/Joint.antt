@@ -1,5 +1,6 @@
 -- At the joint of two neighbouring edges of a ring the inside goes over to the same hand of the next edge.
-use Rattle.std.proofs.Common.{◌≡◌, ◌⊎◌, inl, inr, ℕ, zero, suc, ◌+◌, ◌<◌, ◌≤◌, ℤ, pos, ◌+ℤ◌, ◌-ℤ◌, ◌*ℤ◌, neg_ℤ, ◌<ℤ◌, Bool, true, false, not, List, [], ◌∷◌, ap, refl, sym, ◌∙◌, subst, arith}
+use Rattle.std.proofs.Common.{◌≡◌, ◌⊎◌, inl, inr, ℕ, zero, suc, ◌+◌, ◌<◌, ◌≤◌, ℤ, pos, ◌+ℤ◌, ◌-ℤ◌, ◌*ℤ◌, neg_ℤ, ◌<ℤ◌, Bool, true, false}
+use Rattle.std.proofs.Common.{not, List, [], ◌∷◌, ap, refl, sym, ◌∙◌, subst, arith}
 use Rattle.std.specs.Prelude.{slice_get}
 use Rattle.std.proofs.lemmas.Bool.{cases_eq, true≢false}
 use Rattle.std.proofs.Math.Bool.{not-not}
@@ -30,7 +31,8 @@ use Rattle.ring_laws.proofs.Germs.Areas.{toward_on}
 use Rattle.side_laws.proofs.Edges.Places.{IsSimple, alone_within, alone_at_joint, off_edge}
 use Rattle.side_laws.proofs.Edges.Germ.{edge_turn, edge_turn_on, between_not_start, between_not_end}
 pub use Rattle.side_laws.proofs.Edges.Germ.{between_flip}
-use Rattle.side_laws.proofs.Edges.Beside.{IsBesideAt, HasBesideAt, beside_at, by_hand, left_way, right_way, left_way_slope, right_way_slope, side_of, still}
+use Rattle.side_laws.proofs.Edges.Beside.{IsBesideAt, HasBesideAt, beside_at, by_hand, left_way, right_way, left_way_slope, right_way_slope}
+use Rattle.side_laws.proofs.Edges.Beside.{side_of, still}
 use Rattle.side_laws.proofs.Edges.Parted.{ArePartedFrom}
 use Rattle.side_laws.proofs.Edges.Strip.{IsBeyond, strip, beyond_by_places, carried_over, turn_between, along_edge}
 

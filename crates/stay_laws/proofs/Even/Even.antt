@@ -14,8 +14,10 @@ use Rattle.point_set.specs.declared.dim_loc.DimLoc.TheVariants as kind
 use Rattle.point_set.specs.declared.figure.Area.{Area}
 use Rattle.point_set.specs.declared.figure.Figure.{Figure}
 use Rattle.point_set.specs.declared.rule.Rule.{Rule}
-use Rattle.point_set.specs.Lines.{is_at, is_at_some, is_at_still_line, is_on_lines, is_still, count_at, ends_of, ends_of_lines, last_after, is_boundary_count}
-use Rattle.point_set.specs.Location.{location, location_by, is_not_exterior, is_covered, is_covered_by, IsAreaInterior, is_on_line, is_line_boundary, is_at_point, IsKind, edges_of_rings, rings_of}
+use Rattle.point_set.specs.Lines.{is_at, is_at_some, is_at_still_line, is_on_lines, is_still, count_at, ends_of, ends_of_lines, last_after}
+use Rattle.point_set.specs.Lines.{is_boundary_count}
+use Rattle.point_set.specs.Location.{location, location_by, is_not_exterior, is_covered, is_covered_by, IsAreaInterior, is_on_line}
+use Rattle.point_set.specs.Location.{is_line_boundary, is_at_point, IsKind, edges_of_rings, rings_of}
 use Rattle.point_set.specs.Rings.{edges_of, is_on_edge, is_on_edges, is_inside}
 use Rattle.point_set.specs.Shape.{IsAreaShaped, IsWellShaped}
 use Rattle.point_set.specs.Validity.{IsAtPlace}

@@ -8,7 +8,8 @@ use Rattle.point_set.specs.declared.figure.Area.{Area}
 use Rattle.point_set.specs.declared.figure.Figure.{Figure}
 use Rattle.point_set.specs.declared.rule.Rule.{Rule}
 use Rattle.point_set.specs.Lines.{is_at, is_at_some}
-use Rattle.point_set.specs.Location.{location, is_not_exterior, is_covered, is_covered_by, IsAreaInterior, IsKind, IsLocation, edges_of_rings, rings_of}
+use Rattle.point_set.specs.Location.{location, is_not_exterior, is_covered, is_covered_by, IsAreaInterior, IsKind, IsLocation}
+use Rattle.point_set.specs.Location.{edges_of_rings, rings_of}
 use Rattle.point_set.specs.Rings.{is_on_edge, is_on_edges}
 use Rattle.point_set.specs.Shape.{IsWellShaped}
 use Rattle.point_set.specs.Validity.{IsAtPlace}

@@ -1,11 +1,13 @@
 -- The value of a number, found from the front of its digits.
-use Rattle.std.proofs.Common.{◌≡◌, ℕ, zero, suc, ◌+◌, ◌-◌, ◌*◌, ◌/◌, ◌%◌, ◌^◌, ◌<◌, ◌≤◌, Bool, true, false, ◌&&◌, ◌==◌, List, [], ◌∷◌, inl, inr, length, take, drop, refl, sym, ◌∙◌, ap, arith, length-drop, take-append-drop}
+use Rattle.std.proofs.Common.{◌≡◌, ℕ, zero, suc, ◌+◌, ◌-◌, ◌*◌, ◌/◌, ◌%◌, ◌^◌, ◌<◌, ◌≤◌, Bool, true, false, ◌&&◌, ◌==◌, List, [], ◌∷◌, inl}
+use Rattle.std.proofs.Common.{inr, length, take, drop, refl, sym, ◌∙◌, ap, arith, length-drop, take-append-drop}
 use Rattle.std.proofs.lemmas.Bool.{cases_lt, false≢true, eqb-true, cases_Bool, and_parts}
 use Rattle.std.proofs.lemmas.Bool.Decides.{nat_tests}
 use Rattle.std.proofs.lemmas.List.{take_all, drop_all}
 use Rattle.std.proofs.lemmas.List.Sums.{fold-append}
 use Rattle.std.proofs.lemmas.Nat.{pow-add, div-mul-add, mod-mul-add}
-use Rattle.std.proofs.Math.Nat.{zero-mul, mul_assoc, mul_comm, add-mul, pow-succ', mul-le-mul_right, mul-lt-mul_of_pos_right, mul-mod_left, mul-div_left}
+use Rattle.std.proofs.Math.Nat.{zero-mul, mul_assoc, mul_comm, add-mul, pow-succ', mul-le-mul_right, mul-lt-mul_of_pos_right, mul-mod_left}
+use Rattle.std.proofs.Math.Nat.{mul-div_left}
 use Rattle.std.specs.List.{list_all}
 use Rattle.std.specs.Char.{is_ascii_digit}
 use Rattle.text_laws.specs.Numbers.{read_on, from_digits, is_zero}

@@ -1,5 +1,6 @@
 -- The clauses over all points, from the lemma beside an edge.
-use Rattle.std.proofs.Common.{◌≡◌, ◌≢◌, ◌⊎◌, inl, inr, ℕ, zero, suc, ◌<◌, Bool, true, false, not, ◌&&◌, List, [], ◌∷◌, ◌++◌, ap, refl, sym, ◌∙◌, subst, subst₂, arith}
+use Rattle.std.proofs.Common.{◌≡◌, ◌≢◌, ◌⊎◌, inl, inr, ℕ, zero, suc, ◌<◌, Bool, true, false, not, ◌&&◌, List, [], ◌∷◌, ◌++◌, ap, refl, sym}
+use Rattle.std.proofs.Common.{◌∙◌, subst, subst₂, arith}
 use Rattle.std.specs.List.{All}
 use Rattle.std.proofs.lemmas.Bool.{and_parts}
 use Rattle.std.proofs.lemmas.List.Elements.{All-nil, All-cons}
@@ -14,7 +15,8 @@ use Rattle.point_set.specs.Location.{location, location_by}
 use Rattle.point_set.specs.Shape.{IsRingShaped, IsAreaShaped}
 use Rattle.point_set.specs.Validity.{IsAtPlace, CrossesItself, EdgesShareSegment, AreasShareSegment, AreasOverlap}
 use Rattle.side_laws.proofs.Areas.Hands.{share_back}
-use Rattle.valid_laws.specs.Entering.{edges_in, disc_of, Enters, IsClean, IsSimpleRing, LeavesShell, AreBothInside, LawBeside, LawReach, LawHoleOutside, LawHolesOverlap, LawElementsOverlap}
+use Rattle.valid_laws.specs.Entering.{edges_in, disc_of, Enters, IsClean, IsSimpleRing, LeavesShell, AreBothInside, LawBeside, LawReach}
+use Rattle.valid_laws.specs.Entering.{LawHoleOutside, LawHolesOverlap, LawElementsOverlap}
 
 interior_apart : Interior ≢ Boundary
 interior_apart e = cc

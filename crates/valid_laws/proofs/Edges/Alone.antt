@@ -1,12 +1,14 @@
 -- Along an edge of a clean area, near any of its points, no other edge is met.
-use Rattle.std.proofs.Common.{◌≡◌, ◌⊎◌, inl, inr, ℕ, zero, suc, ◌+◌, ◌<◌, ℤ, pos, ◌*ℤ◌, ◌<ℤ◌, Bool, true, false, List, [], ◌∷◌, ap, refl, sym, ◌∙◌, subst, arith}
+use Rattle.std.proofs.Common.{◌≡◌, ◌⊎◌, inl, inr, ℕ, zero, suc, ◌+◌, ◌<◌, ℤ, pos, ◌*ℤ◌, ◌<ℤ◌, Bool, true, false, List, [], ◌∷◌, ap, refl}
+use Rattle.std.proofs.Common.{sym, ◌∙◌, subst, arith}
 use Rattle.std.proofs.lemmas.Bool.{true≢false, cases_eq, cases_order}
 use Rattle.std.specs.Prelude.{slice_get}
 use lib.IntN.{zero-*ℤ}
 use lib.Signed.{<ℤ_irrefl, <ℤ-≤ℤ_trans}
 use Rattle.whole_algebra.proofs.Signs.{by_sign, zero_factor, pos_nonzero}
 use Rattle.plane_laws.proofs.Segments.Mixes.{start_on_segment, end_on_segment, segment_same}
-use Rattle.plane_laws.proofs.Segments.On.{same_from_steps, mix_shift_start, mix_shift_end, mix_rise_start, mix_rise_end, Decides-is_on_segment, on_segment_of_same}
+use Rattle.plane_laws.proofs.Segments.On.{same_from_steps, mix_shift_start, mix_shift_end, mix_rise_start, mix_rise_end}
+use Rattle.plane_laws.proofs.Segments.On.{Decides-is_on_segment, on_segment_of_same}
 use Rattle.plane_laws.proofs.Points.Same.{same_refl, same_sym, same_trans, Decides-is_same_point}
 use Rattle.plane_laws.specs.Plane.{Point, IsOnSegment, IsStrictlyBetween, IsSamePoint, is_same_point, rise, shift}
 use Rattle.plane_exact.specs.Places.{point_of}

@@ -1,5 +1,6 @@
 -- From a point to an edge.
-use Rattle.std.proofs.Common.{◌≡◌, ◌≢◌, ◌⊎◌, inl, inr, ℕ, zero, suc, ◌+◌, ◌<◌, ℤ, pos, ◌+ℤ◌, ◌*ℤ◌, neg_ℤ, ◌<ℤ◌, not, Bool, true, false, ◌||◌, List, [], ◌∷◌, ◌++◌, ap, refl, sym, ◌∙◌, subst, arith}
+use Rattle.std.proofs.Common.{◌≡◌, ◌≢◌, ◌⊎◌, inl, inr, ℕ, zero, suc, ◌+◌, ◌<◌, ℤ, pos, ◌+ℤ◌, ◌*ℤ◌, neg_ℤ, ◌<ℤ◌, not, Bool, true, false}
+use Rattle.std.proofs.Common.{◌||◌, List, [], ◌∷◌, ◌++◌, ap, refl, sym, ◌∙◌, subst, arith}
 use Rattle.std.specs.List.{list_any}
 use Rattle.std.proofs.lemmas.Bool.{true≢false, false_from_ne_true, and_parts, or_left, or_right, or_parts, or_from}
 use Rattle.im_matrix.specs.declared.Loc.{Loc}
@@ -152,7 +153,16 @@ module _ (first : LawFirstMeeting) (one other : Area) (shaped_one : IsAreaShaped
           let q_g = on_true (through (edges_in one) held i g is_g on_g (is_on_edge q g) refl) in
           let q_h = on_true (through (edges_in other) held_other j h is_h on_h (is_on_edge q h) refl) in
           none_shared i j g h is_g is_h
-          (record { a = q; b = y; apart = apart; held = λ m on. (segment_within q_g (on_true on_g) on, segment_within q_h (on_true on_h) on) })
+          (record {
+            a = q;
+            b = y;
+            apart = apart;
+            held = λ m on. (
+              segment_within q_g (on_true on_g) on,
+              segment_within q_h
+                  (on_true on_h) on,
+            );
+          })
 
   -- an edge that runs from q along r, another way than straight on
   record IsTurned (q : Point) (d : Direction) : Type 0 where

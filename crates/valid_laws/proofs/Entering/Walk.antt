@@ -1,5 +1,6 @@
 -- Along a ring.
-use Rattle.std.proofs.Common.{◌||◌, ◌≡◌, ◌≢◌, ◌⊎◌, inl, inr, ℕ, zero, suc, ◌+◌, ◌<◌, ℤ, pos, ◌+ℤ◌, ◌-ℤ◌, ◌*ℤ◌, ◌<ℤ◌, ◌≤ℤ◌, Bool, true, false, List, [], ◌∷◌, ap, refl, sym, ◌∙◌, subst, arith}
+use Rattle.std.proofs.Common.{◌||◌, ◌≡◌, ◌≢◌, ◌⊎◌, inl, inr, ℕ, zero, suc, ◌+◌, ◌<◌, ℤ, pos, ◌+ℤ◌, ◌-ℤ◌, ◌*ℤ◌, ◌<ℤ◌, ◌≤ℤ◌, Bool, true}
+use Rattle.std.proofs.Common.{false, List, [], ◌∷◌, ap, refl, sym, ◌∙◌, subst, arith}
 use Rattle.std.proofs.lemmas.Bool.{true≢false, false_from_ne_true}
 use Rattle.im_matrix.specs.declared.Loc.{Loc}
 use Rattle.im_matrix.specs.declared.Loc.TheVariants.{Boundary}
@@ -10,7 +11,8 @@ use Rattle.whole_algebra.proofs.Signs.{<ℤ_weaken, pos-*-pos, nonneg-*-nonneg, 
 use lib.IntN.{zero-*ℤ}
 use Rattle.plane_laws.proofs.Segments.Mixes.{start_on_segment, end_on_segment, segment_flip, segment_same}
 use Rattle.plane_laws.proofs.Points.Same.{same_refl, same_sym}
-use Rattle.plane_laws.proofs.Segments.On.{Decides-is_on_segment, same_from_steps, mix_shift_start, mix_shift_end, mix_rise_start, mix_rise_end}
+use Rattle.plane_laws.proofs.Segments.On.{Decides-is_on_segment, same_from_steps, mix_shift_start, mix_shift_end, mix_rise_start}
+use Rattle.plane_laws.proofs.Segments.On.{mix_rise_end}
 use Rattle.figure_laws.proofs.Points.Same.{is_on_edges-same}
 use Rattle.plane_laws.specs.Plane.{Point, IsOnSegment, IsSamePoint, rise, shift}
 use Rattle.plane_exact.specs.Places.{point_of}

@@ -10,20 +10,53 @@ use Rattle.area_locator.proofs.ring.locate_after.Goals as goal
 use Rattle.area_locator.proofs.ring.locate_after.Goals.{in-Crosses, in-Misses}
 
 -- the positions that are left, with the present one first
-so_far : (p : Point) (first : Pt) (others : List Pt) (last : Pt) (index : ℕ) (odd : Bool) (d : Pt) → index < length others → is_on_edges p (edges_after first others) ≡ is_on_edges p (edges_after last (drop index others)) → is_odd p (edges_after first others) ≡ differ odd (is_odd p (edges_after last (drop index others))) → IsSoFar p first others last (get_or others index d ∷ drop (index + 1) others) odd
+so_far :
+    (p : Point) (first : Pt) (others : List Pt) (last : Pt) (index : ℕ) (odd : Bool) (d : Pt) → index < length others
+    → is_on_edges p (edges_after first others) ≡ is_on_edges p (edges_after last (drop index others))
+    → is_odd p (edges_after first others) ≡ differ odd (is_odd p (edges_after last (drop index others)))
+    → IsSoFar p first others last (get_or others index d ∷ drop (index + 1) others) odd
 so_far p first others last index odd d below on is_it =
     let P : List Pt → Type 0 = λ left. IsSoFar p first others last left odd in
-    subst P (drop-cons others index d below ∙ ap (λ n. get_or others index d ∷ drop n others) (sym (add-one index))) (record { on = on; odd_is = is_it })
+    subst P (drop-cons others index d below ∙ ap (λ n. get_or others index d ∷ drop n others) (sym (add-one index)))
+    (record { on = on; odd_is = is_it })
 
 pub returns-in-Holds : goal.returns-in-Holds
 returns-in-Holds c =
-    let s = so_far (point_at c.args.n.now) c.args.first c.args.others.now c.loop-p.last c.loop-p.p-index c.loop-p.odd (record { x = pos 0; y = pos 0 }) (omega arith) c.loop-p.invariant.on c.loop-p.invariant.odd in
-    record { location = sym (ap (λ z. location_by z (is_odd (point_at c.args.n.now) (edges_after c.args.first c.args.others.now)) false) (found s (sym c.touch_between.ensures.touch ∙ c.in-Holds.is))) }
+    let s = so_far (point_at c.args.n.now) c.args.first c.args.others.now c.loop-p.last c.loop-p.p-index c.loop-p.odd
+    (record { x = pos 0; y = pos 0 }) (omega arith) c.loop-p.invariant.on c.loop-p.invariant.odd in
+    record {
+      location = sym
+          (ap (λ z. location_by z (is_odd (point_at c.args.n.now) (edges_after c.args.first c.args.others.now)) false)
+          (found s (sym c.touch_between.ensures.touch ∙ c.in-Holds.is)));
+    }
 
 pub loop-p-preserved : goal.loop-p-preserved
 loop-p-preserved c =
-    let s = so_far (point_at c.args.n.now) c.args.first c.args.others.now c.loop-p.last c.loop-p.p-index c.loop-p.odd (record { x = pos 0; y = pos 0 }) (omega arith) c.loop-p.invariant.on c.loop-p.invariant.odd in
+    let s = so_far (point_at c.args.n.now) c.args.first c.args.others.now c.loop-p.last c.loop-p.p-index c.loop-p.odd
+    (record { x = pos 0; y = pos 0 }) (omega arith) c.loop-p.invariant.on c.loop-p.invariant.odd in
     elim c.match-touch_between.branch [
-      | in-Crosses w ↦ (let t = step_crosses s (sym c.touch_between.ensures.touch ∙ w.in-Crosses.is) in record { last = c.requires.others _ _ (omega arith); on = t.on; odd = t.odd_is ∙ ap (λ z. differ z (is_odd (point_at c.args.n.now) (edges_after (get_or c.args.others.now c.loop-p.p-index (record { x = pos 0; y = pos 0 })) (drop (c.loop-p.p-index + 1) c.args.others.now)))) (sym w.odd-is) })
-      | in-Misses w ↦ (let t = step_misses s (sym c.touch_between.ensures.touch ∙ w.in-Misses.is) in record { last = c.requires.others _ _ (omega arith); on = t.on; odd = t.odd_is ∙ ap (λ z. differ z (is_odd (point_at c.args.n.now) (edges_after (get_or c.args.others.now c.loop-p.p-index (record { x = pos 0; y = pos 0 })) (drop (c.loop-p.p-index + 1) c.args.others.now)))) (sym w.odd-is) })
+      | in-Crosses w ↦
+          (let t = step_crosses s
+          (sym c.touch_between.ensures.touch
+          ∙ w.in-Crosses.is) in record {
+            last = c.requires.others _ _ (omega arith);
+            on = t.on;
+            odd = t.odd_is
+                ∙ ap (λ z. differ z
+                (is_odd (point_at c.args.n.now)
+                (edges_after (get_or c.args.others.now c.loop-p.p-index (record { x = pos 0; y = pos 0 }))
+                (drop (c.loop-p.p-index + 1) c.args.others.now)))) (sym w.odd-is);
+          })
+      | in-Misses w ↦
+          (let t = step_misses s
+          (sym c.touch_between.ensures.touch
+          ∙ w.in-Misses.is) in record {
+            last = c.requires.others _ _ (omega arith);
+            on = t.on;
+            odd = t.odd_is
+                ∙ ap (λ z. differ z
+                (is_odd (point_at c.args.n.now)
+                (edges_after (get_or c.args.others.now c.loop-p.p-index (record { x = pos 0; y = pos 0 }))
+                (drop (c.loop-p.p-index + 1) c.args.others.now)))) (sym w.odd-is);
+          })
     ]

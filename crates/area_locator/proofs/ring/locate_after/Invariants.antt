@@ -8,6 +8,8 @@ use Rattle.area_locator.proofs.ring.locate_after.Given as goal
 abbrev pub invariant-loop-p : goal.invariant-loop-p
 invariant-loop-p l = record {
   last : IsInLimit l.last;
-  on : is_on_edges (point_at l.n) (edges_after l.fn.first l.others) ≡ is_on_edges (point_at l.n) (edges_after l.last (drop l.p-index l.others));
-  odd : is_odd (point_at l.n) (edges_after l.fn.first l.others) ≡ differ l.odd (is_odd (point_at l.n) (edges_after l.last (drop l.p-index l.others)));
+  on : is_on_edges (point_at l.n) (edges_after l.fn.first l.others) ≡ is_on_edges (point_at l.n)
+      (edges_after l.last (drop l.p-index l.others));
+  odd : is_odd (point_at l.n) (edges_after l.fn.first l.others) ≡ differ l.odd
+      (is_odd (point_at l.n) (edges_after l.last (drop l.p-index l.others)));
 }

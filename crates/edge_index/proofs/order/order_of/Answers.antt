@@ -11,5 +11,6 @@ returns c =
     let moved = IsPermutation-map place_of c.in_ok-spots.spots c.sort.new.self c.sort.ensures.permutation in
     record {
       places = IfOk-weaker c.places_of.result _ _ (λ places e.
-          subst₂ (λ (xs ys : List ℕ). IsPermutation xs ys) c.in_ok-spots.ensures.places (sym (e ∙ ap (map place_of) c.as_slice.ensures.items)) moved) c.places_of.ensures.places;
+          subst₂ (λ (xs ys : List ℕ). IsPermutation xs ys) c.in_ok-spots.ensures.places
+          (sym (e ∙ ap (map place_of) c.as_slice.ensures.items)) moved) c.places_of.ensures.places;
     }

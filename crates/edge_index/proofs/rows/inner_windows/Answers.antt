@@ -12,8 +12,11 @@ loop-place-preserved c =
     let place = c.loop-place.place - 1 in
     let next : c.loop-place.place ≡ place + 1 = omega arith in
     let before = subst (λ (from : ℕ). AreJoinedFrom segs leaves inner from) next c.loop-place.invariant in
-    let left = c.window_at-left.ensures.window ∙ ap (λ (ws : List Window). window_at segs leaves ws (2 * place + 1)) c.deref.ensures.value in
-    let right = c.window_at-right.ensures.window ∙ ap (λ (ws : List Window). window_at segs leaves ws (2 * place + 2)) c.deref-in-loop-place.ensures.value in
+    let left = c.window_at-left.ensures.window
+    ∙ ap (λ (ws : List Window). window_at segs leaves ws (2 * place + 1)) c.deref.ensures.value in
+    let right = c.window_at-right.ensures.window
+    ∙ ap (λ (ws : List Window). window_at segs leaves ws (2 * place + 2)) c.deref-in-loop-place.ensures.value in
     let sides = c.join.ensures in
     let both = joined_by_sides c.join.result c.window_at-left.result c.window_at-right.result sides.low_x sides.low_y sides.high_x sides.high_y in
-    joined_more segs leaves inner place c.join.result c.window_at-left.result c.window_at-right.result before (omega (arith, before.count)) left right both
+    joined_more segs leaves inner place c.join.result c.window_at-left.result c.window_at-right.result before
+    (omega (arith, before.count)) left right both

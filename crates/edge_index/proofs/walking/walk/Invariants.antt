@@ -6,7 +6,8 @@ use Rattle.edge_index.proofs.walking.walk.Given as goal
 
 -- what is found and what is left are what the visit of the whole tree finds
 abbrev pub invariant-loop-next : goal.invariant-loop-next
-invariant-loop-next g l = IsUnderway (view_of l.w (g.T.Boxes.rows l.rows)) l.next l.out (g.M.Meter.used l.initial.meter) (g.M.Meter.used l.meter)
+invariant-loop-next g l =
+    IsUnderway (view_of l.w (g.T.Boxes.rows l.rows)) l.next l.out (g.M.Meter.used l.initial.meter) (g.M.Meter.used l.meter)
 
 -- the looks that are left at most
 abbrev pub decreases-loop-next : goal.decreases-loop-next

@@ -14,7 +14,8 @@ loop-line-preserved c =
     let at : c.line-item.result ≡ get_or lines place c.line-item.result = c.line-item.is in
     let same : c.in_ok-bytes.bytes.items ≡ get_or lines place c.line-item.result =
     c.in_ok-bytes.ensures.items ∙ c.as_slice.ensures.items ∙ at in
-    let there : Contains lines c.in_ok-bytes.bytes.items = subst (Contains lines) (sym same) (Contains-get_or lines place c.line-item.result within) in
+    let there : Contains lines c.in_ok-bytes.bytes.items = subst (Contains lines) (sym same)
+    (Contains-get_or lines place c.line-item.result within) in
     rw (take_more lines place c.line-item.result within, ← same, c.in-Ok.ensures.keys)
     (one_more (λ line. line.items) lines (take place lines) c.loop-line.distinct.keys c.in_ok-bytes.bytes there
     (rw (← c.in-Ok.ensures.keys) c.in-Ok.ensures.ordered) c.loop-line.invariant)

@@ -29,14 +29,16 @@ returns-clause-positive c =
 
 pub returns-clause-x : goal.returns-clause-x
 returns-clause-x c =
-    subst₂ (λ (a b : ℕ). a ∣ b) (sym (size c)) (first c) (dvd_trans c.greatest_divisor.result c.greatest_divisor.ensures.greatest.0 c.greatest_divisor-of_two.ensures.greatest.1)
+    subst₂ (λ (a b : ℕ). a ∣ b) (sym (size c)) (first c)
+    (dvd_trans c.greatest_divisor.result c.greatest_divisor.ensures.greatest.0 c.greatest_divisor-of_two.ensures.greatest.1)
 
 pub returns-clause-y : goal.returns-clause-y
 returns-clause-y c = subst₂ (λ (a b : ℕ). a ∣ b) (sym (size c)) (second c) c.greatest_divisor.ensures.greatest.1
 
 pub returns-clause-w : goal.returns-clause-w
 returns-clause-w c =
-    subst₂ (λ (a b : ℕ). a ∣ b) (sym (size c)) (third c) (dvd_trans c.greatest_divisor.result c.greatest_divisor.ensures.greatest.0 c.greatest_divisor-of_two.ensures.greatest.0)
+    subst₂ (λ (a b : ℕ). a ∣ b) (sym (size c)) (third c)
+    (dvd_trans c.greatest_divisor.result c.greatest_divisor.ensures.greatest.0 c.greatest_divisor-of_two.ensures.greatest.0)
 
 pub returns-clause-greatest : goal.returns-clause-greatest
 returns-clause-greatest c = λ d x y w.

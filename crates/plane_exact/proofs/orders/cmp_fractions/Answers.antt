@@ -16,9 +16,14 @@ returns-then-w-v c =
     let x = read w128 a.x (numerator_size a.x a.w f) refl in
     let u = read w128 a.u (numerator_size a.u a.v s) refl in
     let same : a.w ≡ a.v = omega (arith, ints) in
-    let scaled : a.w *ℤ (a.u -ℤ a.x) ≡ pos 1 *ℤ (a.u *ℤ a.w -ℤ a.x *ℤ a.w) = identity (var 0 ⊗ (var 1 ⊖ var 2)) (num (pos 1) ⊗ (var 1 ⊗ var 0 ⊖ var 2 ⊗ var 0)) (a.w ∷ a.u ∷ a.x ∷ []) refl in
+    let scaled : a.w *ℤ (a.u -ℤ a.x) ≡ pos 1 *ℤ (a.u *ℤ a.w -ℤ a.x *ℤ a.w) = identity (var 0 ⊗ (var 1 ⊖ var 2))
+    (num (pos 1) ⊗ (var 1 ⊗ var 0 ⊖ var 2 ⊗ var 0)) (a.w ∷ a.u ∷ a.x ∷ []) refl in
     let one : pos 0 <ℤ pos 1 = record { lt = tt } in
-    record { order = c.cmp.ensures ∙ (λ i. int_cmp (x.is i) (u.is i)) ∙ same_int_cmp a.x a.u (a.x *ℤ a.v) (a.u *ℤ a.w) a.w (pos 1) f.heavy one (scaled ∙ ap (λ z. pos 1 *ℤ (a.u *ℤ a.w -ℤ a.x *ℤ z)) same) }
+    record {
+      order = c.cmp.ensures ∙ (λ i. int_cmp (x.is i) (u.is i))
+          ∙ same_int_cmp a.x a.u (a.x *ℤ a.v) (a.u *ℤ a.w) a.w (pos 1) f.heavy one
+          (scaled ∙ ap (λ z. pos 1 *ℤ (a.u *ℤ a.w -ℤ a.x *ℤ z)) same);
+    }
 
 pub returns-else-w-v : goal.returns-else-w-v
 returns-else-w-v c =

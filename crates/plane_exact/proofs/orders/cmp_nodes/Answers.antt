@@ -8,5 +8,10 @@ pub returns-in_default : goal.returns-in_default
 returns-in_default c =
     let m = c.args.m.now in
     let n = c.args.n.now in
-    let e = c.cmp_fractions.ensures.order ∙ (λ i. compare_fractions (plain_numerator m.x m.w m.across i) (plain_weight m.x m.w m.across i) (plain_numerator n.x n.w n.across i) (plain_weight n.x n.w n.across i)) in
-    record { order = then_first (compare_fractions m.x m.w n.x n.w) (compare_fractions m.y m.w n.y n.w) c.cmp_fractions.result e c.in_default.not-Equal }
+    let e = c.cmp_fractions.ensures.order
+    ∙ (λ i. compare_fractions (plain_numerator m.x m.w m.across i) (plain_weight m.x m.w m.across i)
+    (plain_numerator n.x n.w n.across i) (plain_weight n.x n.w n.across i)) in
+    record {
+      order = then_first (compare_fractions m.x m.w n.x n.w)
+          (compare_fractions m.y m.w n.y n.w) c.cmp_fractions.result e c.in_default.not-Equal;
+    }

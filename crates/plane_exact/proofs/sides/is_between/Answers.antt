@@ -15,7 +15,13 @@ returns-then-beyond-ge0 c =
     let test = at_most_test second (literal (pos 0)) in
     let passed : pos 0 ≤ℤ wide c.beyond.result = omega (arith, ints) in
     let above : pos 0 ≤ℤ (a.x -ℤ a.low *ℤ a.w) = subst (λ (z : ℤ). pos 0 ≤ℤ z) first.is passed in
-    record { between = (λ t. (omega (arith, linear, above), let h = test.0 t in omega (arith, linear, h)), λ h. let k : (a.x -ℤ a.high *ℤ a.w) ≤ℤ pos 0 = omega (arith, linear, h.1) in test.1 k) }
+    record {
+      between = (
+        λ t. (omega (arith, linear, above), let h = test.0 t in omega (arith, linear, h)),
+        λ h. let k :
+            (a.x -ℤ a.high *ℤ a.w) ≤ℤ pos 0 = omega (arith, linear, h.1) in test.1 k,
+      );
+    }
 
 pub returns-else-beyond-ge0 : goal.returns-else-beyond-ge0
 returns-else-beyond-ge0 c =

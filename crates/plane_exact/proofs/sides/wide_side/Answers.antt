@@ -28,10 +28,16 @@ pub overflow_sub-b : goal.overflow_sub-b
 overflow_sub-b c = fits w64 (step c.args.a.x c.args.b.x (abscissa_size c.args.a c.requires.a) (abscissa_size c.args.b c.requires.b)) refl
 
 pub overflow_mul-from : goal.overflow_mul-from
-overflow_mul-from c = fits w128 (product (ahead c.args.a c.args.b _ c.requires.a c.requires.b c.from.ensures) (up c.args.a c.args.n.now _ c.requires.a c.beyond-up.ensures.distance)) refl
+overflow_mul-from c =
+    fits w128
+    (product (ahead c.args.a c.args.b _ c.requires.a c.requires.b c.from.ensures)
+    (up c.args.a c.args.n.now _ c.requires.a c.beyond-up.ensures.distance)) refl
 
 pub overflow_mul-from-2 : goal.overflow_mul-from-2
-overflow_mul-from-2 c = fits w128 (product (rising c.args.a c.args.b _ c.requires.a c.requires.b c.from-2.ensures) (right c.args.a c.args.n.now _ c.requires.a c.beyond-right.ensures.distance)) refl
+overflow_mul-from-2 c =
+    fits w128
+    (product (rising c.args.a c.args.b _ c.requires.a c.requires.b c.from-2.ensures)
+    (right c.args.a c.args.n.now _ c.requires.a c.beyond-right.ensures.distance)) refl
 
 pub overflow_sub-from : goal.overflow_sub-from
 overflow_sub-from c =
@@ -39,7 +45,8 @@ overflow_sub-from c =
     let b = c.args.b in
     let n = c.args.n.now in
     let first = product (ahead a b _ c.requires.a c.requires.b c.from.ensures) (up a n _ c.requires.a c.beyond-up.ensures.distance) in
-    let second = product (rising a b _ c.requires.a c.requires.b c.from-2.ensures) (right a n _ c.requires.a c.beyond-right.ensures.distance) in
+    let second = product (rising a b _ c.requires.a c.requires.b c.from-2.ensures)
+    (right a n _ c.requires.a c.beyond-right.ensures.distance) in
     fits w128 (difference (stored w128 first refl) (stored w128 second refl)) refl
 
 pub returns : goal.returns
@@ -48,6 +55,7 @@ returns c =
     let b = c.args.b in
     let n = c.args.n.now in
     let first = product (ahead a b _ c.requires.a c.requires.b c.from.ensures) (up a n _ c.requires.a c.beyond-up.ensures.distance) in
-    let second = product (rising a b _ c.requires.a c.requires.b c.from-2.ensures) (right a n _ c.requires.a c.beyond-right.ensures.distance) in
+    let second = product (rising a b _ c.requires.a c.requires.b c.from-2.ensures)
+    (right a n _ c.requires.a c.beyond-right.ensures.distance) in
     let all = stored w128 (difference (stored w128 first refl) (stored w128 second refl)) refl in
     record { side = c.wide_sign.ensures.sign ∙ ap sign_of (all.is ∙ turn-point a b (point_at n)) }

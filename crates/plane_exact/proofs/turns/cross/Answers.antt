@@ -5,7 +5,10 @@ use Rattle.plane_exact.proofs.turns.cross.Goals as goal
 abbrev number : ℤ → ℤ
 number z = to_z w64 (of_z w64 z)
 
-whole : (c : goal.Start) → Computes (number (number c.args.ux *ℤ number c.args.vy) -ℤ number (number c.args.uy *ℤ number c.args.vx)) (c.args.ux *ℤ c.args.vy -ℤ c.args.uy *ℤ c.args.vx) 140737488355328
+whole :
+    (c : goal.Start)
+    → Computes (number (number c.args.ux *ℤ number c.args.vy) -ℤ number (number c.args.uy *ℤ number c.args.vx))
+    (c.args.ux *ℤ c.args.vy -ℤ c.args.uy *ℤ c.args.vx) 140737488355328
 whole c =
     let ux = read w64 c.args.ux c.requires.ux refl in
     let uy = read w64 c.args.uy c.requires.uy refl in

@@ -5,7 +5,10 @@ use Rattle.plane_exact.proofs.Sizes.{turned}
 use Rattle.plane_exact.proofs.Positions.{turn-positions}
 use Rattle.plane_exact.proofs.turns.turn_of.Goals as goal
 
-whole : (c : goal.After-cross) → Computes (narrow c.cross.result) ((c.args.b.x -ℤ c.args.a.x) *ℤ (c.args.c.y -ℤ c.args.a.y) -ℤ (c.args.b.y -ℤ c.args.a.y) *ℤ (c.args.c.x -ℤ c.args.a.x)) widest
+whole :
+    (c : goal.After-cross)
+    → Computes (narrow c.cross.result)
+    ((c.args.b.x -ℤ c.args.a.x) *ℤ (c.args.c.y -ℤ c.args.a.y) -ℤ (c.args.b.y -ℤ c.args.a.y) *ℤ (c.args.c.x -ℤ c.args.a.x)) widest
 whole c =
     let e = turned c.args.a c.args.b c.args.c c.requires.a c.requires.b c.requires.c in
     stored w64 (record { is = c.cross.ensures.product ∙ e.is; small = e.small }) refl

@@ -40,7 +40,9 @@ loop-place-preserved c =
     let at : IsAtPlace f.areas c.loop-place.place c.area-item.result
     = area_read c.as_slice-area-items.ensures.items c.figure.ensures.same c.loop-place-test.true c.area-item.is in
     record {
-      edges = area_step (owned_edges c.args.rows.now ++ edges_of_areas 0 f.areas) f.areas c.loop-place.place c.area-item.result at c.loop-place.rows
+      edges =
+          area_step
+          (owned_edges c.args.rows.now ++ edges_of_areas 0 f.areas) f.areas c.loop-place.place c.area-item.result at c.loop-place.rows
           c.add_area.new.rows c.in_ok-add_area.ensures.rows c.loop-place.invariant.edges;
       hands = area_hands f c.loop-place.place c.area-item.result at c.loop-place.rows c.add_area.new.rows c.in_ok-add_area.ensures.rows
           c.loop-place.invariant.hands;

@@ -41,5 +41,6 @@ loop-i-preserved c =
     let count : length (take i items) ≡ i = length-take-le i items (omega (arith, c.loop-i-test.true)) in
     let next = take_more items i hole c.loop-i-test.true ∙ ap (λ (h : List Pt). take i items ++ h ∷ []) (sym c.hole-item.is) in
     subst (λ (rings : List (List Pt)). AddsRings area c.args.place 1 rings c.args.rows.now c.add_edges.new.rows) (sym next)
-    (ring_added area c.args.place 1 (take i items) hole (i + 1) (omega (arith, count)) side hands c.args.rows.now c.loop-i.rows c.add_edges.new.rows
+    (ring_added area c.args.place 1 (take i items) hole (i + 1)
+    (omega (arith, count)) side hands c.args.rows.now c.loop-i.rows c.add_edges.new.rows
     c.loop-i.invariant c.in_ok-add_edges.ensures.rows)

@@ -23,9 +23,14 @@ loop-place-preserved c =
     let lines = c.args.figure.now.lines in
     let next = edges_of_lines (place + 1) (drop (place + 1) lines) in
     record {
-      edges = more_rows (owned_edges c.args.rows.now ++ edges_of_lines 0 lines) (edges_of_lines place (drop place lines)) next c.loop-place.rows c.add_edges.new.rows
+      edges =
+          more_rows (owned_edges c.args.rows.now ++ edges_of_lines 0 lines)
+          (edges_of_lines place (drop place lines)) next c.loop-place.rows c.add_edges.new.rows
           (Line place) hand.Line (edges_of line) c.in_ok-add_edges.ensures.rows c.loop-place.invariant.edges
-          (lines_from lines place line (read_at c.as_slice-line-items.result.now lines place line same c.loop-place-test.true c.line-item.is));
-      hands = more_hands c.args.figure.now c.loop-place.rows c.add_edges.new.rows (Line place) hand.Line (edges_of line) c.in_ok-add_edges.ensures.rows
+          (lines_from lines place line
+          (read_at c.as_slice-line-items.result.now lines place line same c.loop-place-test.true c.line-item.is));
+      hands =
+          more_hands c.args.figure.now c.loop-place.rows c.add_edges.new.rows (Line place) hand.Line
+          (edges_of line) c.in_ok-add_edges.ensures.rows
           c.loop-place.invariant.hands (λ i e is. refl);
     }

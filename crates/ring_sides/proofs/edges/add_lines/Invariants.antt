@@ -6,6 +6,7 @@ use Rattle.ring_sides.proofs.edges.add_lines.Given as goal
 
 abbrev pub invariant-loop-place : goal.invariant-loop-place
 invariant-loop-place l = record {
-  edges : owned_edges l.fn.rows ++ edges_of_lines 0 l.figure.lines ≡ owned_edges l.rows ++ edges_of_lines l.place (drop l.place l.figure.lines);
+  edges : owned_edges l.fn.rows ++ edges_of_lines 0 l.figure.lines ≡ owned_edges l.rows
+      ++ edges_of_lines l.place (drop l.place l.figure.lines);
   hands : All (HasItsHand l.figure) l.rows;
 }

@@ -8,5 +8,6 @@ use Rattle.ring_sides.proofs.middle.is_odd_at_middle.Given as goal
 abbrev pub invariant-loop-p : goal.invariant-loop-p
 invariant-loop-p l = record {
   last : IsInLimit l.last;
-  odd : is_odd (middle_of l.edge) (edges_after l.fn.first l.others) ≡ differ l.odd (is_odd (middle_of l.edge) (edges_after l.last (drop l.p-index l.others)));
+  odd : is_odd (middle_of l.edge) (edges_after l.fn.first l.others) ≡ differ l.odd
+      (is_odd (middle_of l.edge) (edges_after l.last (drop l.p-index l.others)));
 }

@@ -1,7 +1,8 @@
 use Rattle.std.proofs.Common.{◌+◌, ◌-◌, ◌/◌, ◌<ℤ◌, ◌≤ℤ◌, subst, arith, rules}
 use Rattle.std.proofs.lemmas.Int.{ints}
 use Rattle.std.proofs.lemmas.Option.{slice_get_within, get_or_from_slice_get}
-use Rattle.y_index.proofs.Looks.{rooted, left_part, right_part, used_never, folded_none, folded_left, used_left, folded, used_both, used_both_low}
+use Rattle.y_index.proofs.Looks.{rooted, left_part, right_part, used_never, folded_none, folded_left, used_left, folded, used_both}
+use Rattle.y_index.proofs.Looks.{used_both_low}
 use Rattle.y_index.specs.declared.rows.SpanRow.{SpanRow}
 use Rattle.y_index.proofs.stabbing.+stab_part.Goals as goal
 
@@ -22,7 +23,8 @@ returns-then-level-root g t c =
     let r = rooted (g.met.T.Spans.tree c.args.rows.now) c.requires.part c.if-from-to.false c.requires.within c.look-root.ensures.row in
     let low : c.args.level.floor <ℤ c.look-root.result.low = omega (arith, ints) in
     record {
-      fold = folded_left c.args.level.floor c.args.level.ceiling r low _ c.args.state c.stab_part-before.result c.stab_part-before.ensures.fold;
+      fold =
+          folded_left c.args.level.floor c.args.level.ceiling r low _ c.args.state c.stab_part-before.result c.stab_part-before.ensures.fold;
       looked = omega arith;
       used = used_left c.args.level.floor c.args.level.ceiling r low _ _ _ c.look-root.ensures.used c.stab_part-before.ensures.used;
       used_low = used_never c.args.level.floor c.args.level.ceiling r low _ _;
@@ -55,5 +57,6 @@ returns g t c =
       fold = folded c.args.level.floor c.args.level.ceiling r _ _ _ _ _ before.fold c.step_at-through.ensures.fold after.fold;
       looked = omega arith;
       used = used_both c.args.level.floor c.args.level.ceiling r low _ _ _ _ c.look-root.ensures.used before.used_low after.used;
-      used_low = used_both_low c.args.level.floor c.args.level.ceiling r low _ _ _ _ c.look-root.ensures.used before.used_low most after.used_low;
+      used_low =
+          used_both_low c.args.level.floor c.args.level.ceiling r low _ _ _ _ c.look-root.ensures.used before.used_low most after.used_low;
     }

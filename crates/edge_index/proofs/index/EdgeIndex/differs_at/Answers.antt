@@ -8,7 +8,8 @@ use Rattle.edge_index.proofs.index.EdgeIndex.differs_at.Goals as goal
 pub returns-then-here-there-clause-equal : goal.returns-then-here-there-clause-equal
 returns-then-here-there-clause-equal c =
     let seen = c.as_slice-here.ensures.items ∙ ap (λ (seen : SeenIndex). seen.segs) c.self.view_is in
-    let same = all_same c.as_slice-here.result.now c.as_slice-there.result.now c.loop-place.place (omega arith) c.loop-place.invariant c.if-here-there.true in
+    let same = all_same c.as_slice-here.result.now c.as_slice-there.result.now c.loop-place.place
+    (omega arith) c.loop-place.invariant c.if-here-there.true in
     (λ _. sym seen ∙ same ∙ c.as_slice-there.ensures.items, λ _. refl)
 
 pub returns-else-here-there-clause-first : goal.returns-else-here-there-clause-first

@@ -24,4 +24,5 @@ returns-clause-tree g c =
 pub returns-clause-leaves : goal.returns-clause-leaves
 returns-clause-leaves g c =
     let s = c.self.inside in
-    subst (λ (seen : SeenIndex). AreLeavesOf seen.segs seen.rows) c.self.view_is (index_leaves s.segs s.leaves.items s.inner.items c.self.invariant)
+    subst (λ (seen : SeenIndex). AreLeavesOf seen.segs seen.rows) c.self.view_is
+    (index_leaves s.segs s.leaves.items s.inner.items c.self.invariant)

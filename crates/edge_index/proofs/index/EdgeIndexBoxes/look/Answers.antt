@@ -24,14 +24,19 @@ row_at-requires-clause-place g c = omega (arith, within g c, ap length c.deref.e
 pub row_at-requires-clause-places : goal.row_at-requires-clause-places
 row_at-requires-clause-places g c =
     let s = c.self.inside in
-    subst₂ (λ (leaves : List ℕ) (segs : List Seg). All (λ (place : ℕ). place < length segs) leaves) (sym c.deref.ensures.value) (sym c.as_slice.ensures.items) (places_within s.segs s.leaves.items c.self.invariant.places)
+    subst₂ (λ (leaves : List ℕ) (segs : List Seg). All (λ (place : ℕ). place < length segs) leaves) (sym c.deref.ensures.value)
+    (sym c.as_slice.ensures.items) (places_within s.segs s.leaves.items c.self.invariant.places)
 
 pub returns-clause-row : goal.returns-clause-row
 returns-clause-row g c =
     let s = c.self.inside in
     let place = c.args.place in
-    let there = row_there s.segs s.leaves.items s.inner.items c.self.invariant place (within g (goal.at.returns-clause-row g c).After-deref-2) in
+    let there = row_there s.segs s.leaves.items s.inner.items c.self.invariant place
+    (within g (goal.at.returns-clause-row g c).After-deref-2) in
     let result = c.row_at.result in
-    let by_inner = subst (λ (inner : List Window). result ≡ row_at c.as_slice.result.now c.deref.result.now inner place) c.deref-2.ensures.value c.row_at.ensures.row in
-    let row = subst₂ (λ (segs : List Seg) (leaves : List ℕ). result ≡ row_at segs leaves s.inner.items place) c.as_slice.ensures.items c.deref.ensures.value by_inner in
+    let by_inner = subst
+    (λ (inner : List Window). result ≡ row_at c.as_slice.result.now c.deref.result.now inner place) c.deref-2.ensures.value c.row_at.ensures.row in
+    let row = subst₂
+    (λ (segs : List Seg)
+    (leaves : List ℕ). result ≡ row_at segs leaves s.inner.items place) c.as_slice.ensures.items c.deref.ensures.value by_inner in
     subst₂ (λ (seen : SeenIndex) (r : BoxRow). IsRowAt seen.rows place r) c.self.view_is (sym row) there

@@ -25,7 +25,9 @@ invariant_of-result-2 c =
     record {
       across = IsFraction-divided c.args.x c.args.w _ _ d k.positive ex ew c.requires.across;
       above = IsFraction-divided c.args.y c.args.w _ _ d k.positive ey ew c.requires.above;
-      reduced = IsReduced-divided _ _ _ _ _ _ d k.positive (ex ∙ sym (to_z-of_z c.ranges.x)) (ey ∙ sym (to_z-of_z c.ranges.y)) (ew ∙ sym (to_z-of_z c.ranges.w)) k.greatest;
+      reduced =
+          IsReduced-divided _ _ _ _ _ _ d k.positive (ex ∙ sym (to_z-of_z c.ranges.x)) (ey ∙ sym (to_z-of_z c.ranges.y))
+          (ew ∙ sym (to_z-of_z c.ranges.w)) k.greatest;
     }
 
 pub returns : goal.returns

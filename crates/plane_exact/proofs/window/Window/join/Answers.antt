@@ -11,4 +11,8 @@ same_box {a} {b} {c} {d} {e} {f} {g} {h} p q r s =
     ap (λ x. box_of x b c d) p ∙ (ap (λ x. box_of e x c d) q ∙ (ap (λ x. box_of e f x d) r ∙ ap (λ x. box_of e f g x) s))
 
 pub returns : goal.returns
-returns c = record { join = same_box (omega (arith, ints, clamps)) (omega (arith, ints, clamps)) (omega (arith, ints, clamps)) (omega (arith, ints, clamps)) }
+returns c =
+    record {
+      join = same_box (omega (arith, ints, clamps)) (omega (arith, ints, clamps)) (omega (arith, ints, clamps))
+          (omega (arith, ints, clamps));
+    }

@@ -7,8 +7,11 @@ use Rattle.whole_algebra.proofs.Computed.{narrow, wide}
 use Rattle.plane_exact.proofs.Sizes.{plain_numerator, plain_weight}
 use Rattle.plane_exact.proofs.window.Window.round.Goals as goal
 
-as_stored : (x w low high : ℤ) → IsFraction x w → low ≡ narrow low → high ≡ narrow high → IsRange (wide x) (wide w) low high → IsRange x w (narrow low) (narrow high)
-as_stored x w low high f el eh h = subst₂ (IsRange x w) el eh (subst₂ (λ (a b : ℤ). IsRange a b low high) (plain_numerator x w f) (plain_weight x w f) h)
+as_stored :
+    (x w low high : ℤ) → IsFraction x w → low ≡ narrow low → high ≡ narrow high → IsRange (wide x) (wide w) low high
+    → IsRange x w (narrow low) (narrow high)
+as_stored x w low high f el eh h =
+    subst₂ (IsRange x w) el eh (subst₂ (λ (a b : ℤ). IsRange a b low high) (plain_numerator x w f) (plain_weight x w f) h)
 
 pub returns : goal.returns
 returns c =
