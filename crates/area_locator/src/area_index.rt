@@ -151,8 +151,11 @@ pub(crate) fn edges_in(alloc: Global, area: &Area) -> Result<SegList, NoMemory>
     Ok(edges)
 }
 
-/// The heights of edges, in order.
-pub(crate) fn spans_of(alloc: Global, edges: &[Seg]) -> Result<SpanList, NoMemory>
+/// The heights of edges, in order: what an index over edges is built of.
+///
+/// # Errors
+/// `NoMemory`.
+pub fn spans_of(alloc: Global, edges: &[Seg]) -> Result<SpanList, NoMemory>
     ensures spans { IfOk result (λ spans. spans ≡ map heights edges.now) }
 {
     let mut spans = SpanList::new(alloc);

@@ -2,3 +2,4 @@ pub mod Points
 pub mod Sets
 pub mod Edges
 pub mod Lists
+pub mod Valid

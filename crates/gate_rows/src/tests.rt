@@ -1,21 +1,11 @@
-use geosop_io::{MemInputs, MemSink, NamedBytes};
-use geosop_run::{Status, run};
+use geosop_run::Status;
+use memory_runs::{FIVE, MEET, THREE, ample, no_files, run_on};
 use pair_batch::Gate;
-use plane_exact::{NoMemory, PlaceList};
-use std::alloc::{AllocError, Global};
+use plane_exact::NoMemory;
 use std::sync::atomic::AtomicU64;
 use std::sync::atomic::Ordering::SeqCst;
 use std::test::*;
 use std::thread::Threads;
-
-const THREE: &str = "POINT (1 1) POLYGON ((0 0, 4 0, 4 4, 0 4, 0 0)) LINESTRING (0 0, 4 4)";
-
-const FIVE: &str =
-    "POINT (1 1) POINT (0 0) LINESTRING (0 4, 4 0) POLYGON ((2 2, 6 2, 6 6, 2 6, 2 2)) POINT EMPTY";
-
-// Which of the three meet which of the five.
-const MEET: &[u8] =
-    b"true\nfalse\nfalse\nfalse\nfalse\ntrue\ntrue\ntrue\ntrue\nfalse\ntrue\ntrue\ntrue\ntrue\nfalse\n";
 
 // A gate that counts who passes.
 #[derive(Drop)]
@@ -29,38 +19,26 @@ impl Gate for Counting {
     }
 }
 
-fn words_of(alloc: Global, list: &[&str]) -> Result<Vec<String>, AllocError> {
-    let mut words = Vec::new(alloc);
-    for word in list {
-        words.push((*word).to_string(alloc)?)?;
-    }
-    Ok(words)
-}
-
 // How often the gate is passed in a run of these words, where it ends well and writes this text.
 fn passes_in<R: Threads + Sync + AllocGlobal>(
     rt: &R,
     list: &[&str],
-    text: &[u8],
+    text: &str,
 ) -> Result<Option<u64>, NoMemory> {
     let alloc = rt.alloc();
-    let words = words_of(alloc, list)?;
     let gate = Counting {
         passes: AtomicU64::new(0),
     };
-    let mut inputs = MemInputs::new(NamedBytes::new(alloc), PlaceList::new(alloc), 1);
-    let mut out = MemSink::new(alloc, 1000, PlaceList::new(alloc))?;
-    let mut err = MemSink::new(alloc, 1000, PlaceList::new(alloc))?;
-    let status = run(
+    let outcome = run_on(
         rt,
         alloc,
-        words.as_slice(),
-        &mut inputs,
-        &mut out,
-        &mut err,
+        list,
+        no_files(alloc),
+        ample(alloc)?,
+        ample(alloc)?,
         &gate,
-    );
-    if status == Status::Ok && out.bytes() == text {
+    )?;
+    if outcome.is(Status::Ok, text, "") {
         Ok(Some(gate.passes.load(SeqCst)))
     } else {
         Ok(None)
@@ -94,7 +72,7 @@ fn one_pass_for_each_prepared_figure_of_a_quiet_run(rt: HostRuntime) -> Result<(
         "--prepared",
         "intersects",
     ];
-    assert_eq!(rt; passes_in(&rt, &words, b"")?, Some(3));
+    assert_eq!(rt; passes_in(&rt, &words, "")?, Some(3));
     Ok(())
 }
 

@@ -1,104 +1,46 @@
 ghost use Rattle.std.specs.Prelude.{◌≡◌, None};
 
 use geosop_io::{MemInputs, MemSink, NamedBytes};
-use geosop_run::{Refusal, Status, UsageFault, run};
+use geosop_run::{Refusal, Status};
 use im_matrix::Which;
+use memory_runs::{FIVE, MEET, Outcome, ROOM, THREE, ample, places_of, run_on};
 use pair_batch::{Free, Gate};
 use plane_exact::{NoMemory, PlaceList};
-use std::alloc::{AllocError, Global};
+use std::alloc::Global;
 use std::test::*;
 use std::thread::Threads;
 use wkt_text::WktKind;
-
-// What came of a run, and how many calls its inputs had.
-#[derive(Drop)]
-struct Outcome {
-    status: Status,
-    calls: u64,
-    out: MemSink,
-    err: MemSink,
-}
-
-impl Outcome {
-    fn is(&self, status: Status, out: &str, err: &str) -> bool {
-        self.status == status
-            && self.out.bytes() == out.as_bytes()
-            && self.err.bytes() == err.as_bytes()
-    }
-}
-
-fn words_of(alloc: Global, list: &[&str]) -> Result<Vec<String>, AllocError> {
-    let mut words = Vec::new(alloc);
-    for word in list {
-        words.push((*word).to_string(alloc)?)?;
-    }
-    Ok(words)
-}
-
-const THREE: &[u8] = b"POINT (1 1)\nPOLYGON ((0 0, 4 0, 4 4, 0 4, 0 0))\nLINESTRING (0 0, 4 4)\n";
-
-const FIVE: &[u8] =
-    b"POINT (1 1)\nPOINT (0 0)\nLINESTRING (0 4, 4 0)\nPOLYGON ((2 2, 6 2, 6 6, 2 6, 2 2))\nPOINT EMPTY\n";
-
-// Which of the three meet which of the five.
-const MEET: &str =
-    "true\nfalse\nfalse\nfalse\nfalse\ntrue\ntrue\ntrue\ntrue\nfalse\ntrue\ntrue\ntrue\ntrue\nfalse\n";
 
 fn files_of(alloc: Global) -> Result<NamedBytes, NoMemory> {
     let mut files = NamedBytes::new(alloc);
     files.add("two.wkt", b"POINT (0 0)\nPOINT (1 1)\n")?;
     files.add("empty.wkt", b"")?;
     files.add("stdin", b"POINT (1 1)")?;
-    files.add("three.wkt", THREE)?;
-    files.add("five.wkt", FIVE)?;
+    files.add("three.wkt", THREE.as_bytes())?;
+    files.add("five.wkt", FIVE.as_bytes())?;
     Ok(files)
 }
 
-// The numbers of the calls that fail.
-fn places_of(alloc: Global, numbers: &[u32]) -> Result<PlaceList, NoMemory> {
-    let mut places = PlaceList::new(alloc);
-    for number in numbers {
-        places.push(*number)?;
-    }
-    Ok(places)
-}
-
 // Runs the words on these sources. The writes with these numbers fail.
-fn run_on<R: Threads + Sync + AllocGlobal>(
+fn writing<R: Threads + Sync + AllocGlobal>(
     rt: &R,
     list: &[&str],
-    mut inputs: MemInputs,
+    inputs: MemInputs,
     failing_writes: &[u32],
 ) -> Result<Outcome, NoMemory>
     requires a_new { inputs.asked.a ≡ None }
     requires b_new { inputs.asked.b ≡ None }
 {
     let alloc = rt.alloc();
-    let words = words_of(alloc, list)?;
-    let mut out = MemSink::new(alloc, 1000, places_of(alloc, failing_writes)?)?;
-    let mut err = MemSink::new(alloc, 1000, PlaceList::new(alloc))?;
-    let status = run(
-        rt,
-        alloc,
-        words.as_slice(),
-        &mut inputs,
-        &mut out,
-        &mut err,
-        &Free,
-    );
-    Ok(Outcome {
-        status,
-        calls: inputs.calls(),
-        out,
-        err,
-    })
+    let out = MemSink::new(alloc, ROOM, places_of(alloc, failing_writes)?)?;
+    run_on(rt, alloc, list, inputs, out, ample(alloc)?, &Free)
 }
 
 // Runs the words on the files, of which a read gives at most seven bytes.
 fn run_words<R: Threads + Sync + AllocGlobal>(rt: &R, list: &[&str]) -> Result<Outcome, NoMemory> {
     let alloc = rt.alloc();
     let inputs = MemInputs::new(files_of(alloc)?, PlaceList::new(alloc), 7);
-    run_on(rt, list, inputs, &[])
+    writing(rt, list, inputs, &[])
 }
 
 fn relate<R: Threads + Sync + AllocGlobal>(rt: &R, a: &str, b: &str) -> Result<Outcome, NoMemory> {
@@ -202,7 +144,7 @@ fn relate_spaces<R: Threads + Sync + AllocGlobal>(
     let mut files = NamedBytes::new(alloc);
     files.add("spaces.wkt", spaces.as_slice())?;
     let list = ["geosop", "-a", "spaces.wkt", "-b", "POINT (0 0)", "relate"];
-    run_on(
+    writing(
         rt,
         &list,
         MemInputs::new(files, PlaceList::new(alloc), 65_536),
@@ -232,11 +174,11 @@ fn a_call_that_fails_ends_the_run(rt: HostRuntime) -> Result<(), Fail> {
     let alloc = rt.alloc();
     let list = ["geosop", "-a", "two.wkt", "-b", "POINT (1 1)", "relate"];
     let second_read = MemInputs::new(files_of(alloc)?, places_of(alloc, &[3])?, 7);
-    let unread = run_on(&rt, &list, second_read, &[])?;
+    let unread = writing(&rt, &list, second_read, &[])?;
     assert!(rt; unread.is(Status::ReadFault, "", "geosop: read fault\n"));
     assert_eq!(rt; unread.calls, 3);
     let inputs = MemInputs::new(files_of(alloc)?, PlaceList::new(alloc), 7);
-    let cut = run_on(&rt, &list, inputs, &[2])?;
+    let cut = writing(&rt, &list, inputs, &[2])?;
     assert!(rt; cut.is(Status::WriteFault, "FF0FFF0F2\n", "geosop: write fault\n"));
     Ok(())
 }
@@ -247,10 +189,10 @@ fn fifteen_pairs(rt: HostRuntime) -> Result<(), Fail> {
     let list = ["geosop", "-a", "three.wkt", "-b", "five.wkt", "intersects"];
     assert!(rt; run_words(&rt, &list)?.is(Status::Ok, MEET, ""));
     let inputs = MemInputs::new(files_of(alloc)?, PlaceList::new(alloc), 7);
-    let cut = run_on(&rt, &list, inputs, &[3])?;
+    let cut = writing(&rt, &list, inputs, &[3])?;
     assert!(rt; cut.is(Status::WriteFault, "true\nfalse\n", "geosop: write fault\n"));
     let second_call = MemInputs::new(files_of(alloc)?, places_of(alloc, &[2])?, 7);
-    let unread = run_on(&rt, &list, second_call, &[])?;
+    let unread = writing(&rt, &list, second_call, &[])?;
     assert!(rt; unread.is(Status::ReadFault, "", "geosop: read fault\n"));
     Ok(())
 }

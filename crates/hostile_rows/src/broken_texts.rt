@@ -1,7 +1,8 @@
 //! Texts that end early, and collections that are nested too deep.
-use crate::runs::{ample, no_files, run_on};
 use geosop_run::{Refusal, Status};
 use im_matrix::Which;
+use memory_runs::{ample, no_files, run_on};
+use pair_batch::Free;
 use std::test::*;
 use wkt_text::{Scale, WktFault, WktKind, read_next};
 
@@ -36,9 +37,17 @@ fn collections_nested_too_deep(rt: HostRuntime) -> Result<(), Fail> {
     for (openings, kind, line) in rows {
         let text = "GEOMETRYCOLLECTION (".repeat(alloc, openings)?;
         let list = ["geosop", "-a", text.as_str(), "-b", "POINT (0 0)", "relate"];
-        let outcome = run_on(&rt, &list, no_files(alloc), ample(alloc)?, ample(alloc)?)?;
+        let outcome = run_on(
+            &rt,
+            alloc,
+            &list,
+            no_files(alloc),
+            ample(alloc)?,
+            ample(alloc)?,
+            &Free,
+        )?;
         let refused = Status::Refused(Refusal::Text(Which::A, 1, kind, 640));
-        assert!(rt; outcome.is(refused, b"", line), "{openings} openings");
+        assert!(rt; outcome.is(refused, "", line), "{openings} openings");
     }
     Ok(())
 }

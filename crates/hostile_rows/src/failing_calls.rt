@@ -1,26 +1,18 @@
 //! Reads and writes that fail in turn.
 ghost use Rattle.std.specs.Prelude.{◌≡◌, None, IfOk};
 
-use crate::runs::{Outcome, ROOM, ample, no_files, places_of, run_on};
 use geom_valid::InvalidKind;
 use geosop_io::{MemInputs, MemSink, NamedBytes};
 use geosop_run::{Refusal, Status};
 use im_matrix::Which;
+use memory_runs::{FIVE, MEET, Outcome, ROOM, THREE, ample, no_files, places_of, run_on};
+use pair_batch::Free;
 use plane_exact::NoMemory;
 use std::alloc::Global;
 use std::test::*;
 use std::thread::Threads;
 
-const THREE: &[u8] = b"POINT (1 1)\nPOLYGON ((0 0, 4 0, 4 4, 0 4, 0 0))\nLINESTRING (0 0, 4 4)\n";
-
-const FIVE: &[u8] =
-    b"POINT (1 1)\nPOINT (0 0)\nLINESTRING (0 4, 4 0)\nPOLYGON ((2 2, 6 2, 6 6, 2 6, 2 2))\nPOINT EMPTY\n";
-
-/// Which of the three meet which of the five.
-const MEET: &[u8] =
-    b"true\nfalse\nfalse\nfalse\nfalse\ntrue\ntrue\ntrue\ntrue\nfalse\ntrue\ntrue\ntrue\ntrue\nfalse\n";
-
-/// How many bytes that text has.
+/// How many bytes the text of which meet has.
 const BYTES: u32 = 81;
 
 const WORDS: [&str; 7] = [
@@ -45,8 +37,8 @@ fn three_and_five(alloc: Global, failing: &[u32]) -> Result<MemInputs, NoMemory>
     ensures b_new { IfOk result (λ inputs. inputs.asked.b ≡ None) }
 {
     let mut files = NamedBytes::new(alloc);
-    files.add("a.wkt", THREE)?;
-    files.add("b.wkt", FIVE)?;
+    files.add("a.wkt", THREE.as_bytes())?;
+    files.add("b.wkt", FIVE.as_bytes())?;
     let fails = places_of(alloc, failing)?;
     Ok(MemInputs::new(files, fails, 16))
 }
@@ -55,7 +47,15 @@ fn three_and_five(alloc: Global, failing: &[u32]) -> Result<MemInputs, NoMemory>
 fn reading<R: Threads + Sync + AllocGlobal>(rt: &R, failing: &[u32]) -> Result<Outcome, NoMemory> {
     let alloc = rt.alloc();
     let inputs = three_and_five(alloc, failing)?;
-    run_on(rt, &WORDS, inputs, ample(alloc)?, ample(alloc)?)
+    run_on(
+        rt,
+        alloc,
+        &WORDS,
+        inputs,
+        ample(alloc)?,
+        ample(alloc)?,
+        &Free,
+    )
 }
 
 /// The run whose output takes one byte a write, and in which these writes fail.
@@ -63,7 +63,7 @@ fn writing<R: Threads + Sync + AllocGlobal>(rt: &R, failing: &[u32]) -> Result<O
     let alloc = rt.alloc();
     let inputs = three_and_five(alloc, &[])?;
     let out = MemSink::cut(alloc, 1, ROOM, places_of(alloc, failing)?)?;
-    run_on(rt, &WORDS, inputs, out, ample(alloc)?)
+    run_on(rt, alloc, &WORDS, inputs, out, ample(alloc)?, &Free)
 }
 
 #[test]
@@ -74,7 +74,7 @@ fn each_call_of_the_inputs_fails(rt: HostRuntime) -> Result<(), Fail> {
     for number in 1..=CALLS_OF_A + CALLS_OF_B {
         let unread = reading(&rt, &[number])?;
         assert!(rt;
-            unread.is(Status::ReadFault, b"", "geosop: read fault\n"),
+            unread.is(Status::ReadFault, "", "geosop: read fault\n"),
             "call {number}"
         );
         assert_eq!(rt; unread.calls, u64::from(number));
@@ -94,7 +94,7 @@ fn each_write_of_one_byte_fails(rt: HostRuntime) -> Result<(), Fail> {
         let front = cut.out.bytes();
         assert!(rt; cut.status == Status::WriteFault, "behind {taken} bytes");
         assert!(rt; cut.err.bytes() == b"geosop: write fault\n".as_slice());
-        assert!(rt; MEET.starts_with(front), "behind {taken} bytes");
+        assert!(rt; MEET.as_bytes().starts_with(front), "behind {taken} bytes");
         assert_eq!(rt; front.len(), taken as usize);
     }
     Ok(())
@@ -112,8 +112,16 @@ fn a_failing_error_sink_changes_no_status(rt: HostRuntime) -> Result<(), Fail> {
     let crossed = "POLYGON ((0 0, 4 4, 4 0, 0 4, 0 0))";
     let list = ["geosop", "-a", crossed, "-b", "POINT (0 0)", "relate"];
     let err = MemSink::new(alloc, ROOM, places_of(alloc, &[1])?)?;
-    let outcome = run_on(&rt, &list, no_files(alloc), ample(alloc)?, err)?;
+    let outcome = run_on(
+        &rt,
+        alloc,
+        &list,
+        no_files(alloc),
+        ample(alloc)?,
+        err,
+        &Free,
+    )?;
     let refused = Status::Refused(Refusal::Shape(Which::A, 1, InvalidKind::RingCross, 1));
-    assert!(rt; outcome.is(refused, b"", ""));
+    assert!(rt; outcome.is(refused, "", ""));
     Ok(())
 }

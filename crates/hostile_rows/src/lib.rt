@@ -6,5 +6,3 @@
 mod broken_texts;
 #[cfg(test)]
 mod failing_calls;
-#[cfg(test)]
-mod runs;

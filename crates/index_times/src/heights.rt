@@ -1,15 +1,15 @@
 ghost use Rattle.std.specs.Prelude.{◌≡◌, ◌↔◌, ◌≤◌, All, IfOk, IsTrue, length, map};
-ghost use Rattle.area_locator.specs.Indexed.{AreRowsOfEdges, IsEdge, heights_of as heights};
+ghost use Rattle.area_locator.specs.Indexed.{AreRowsOfEdges, IsEdge};
 ghost use Rattle.point_set.specs.Shape.{IsWayInLimit};
 ghost use Rattle.y_index.specs.Index.{rows_of};
 ghost use Rattle.y_index.specs.Trees.{IsSpan};
 
 use crate::random::Random;
-use area_locator::{locate_by, ring_locate};
+use area_locator::{locate_by, ring_locate, spans_of};
 use im_matrix::Loc;
 use plane_exact::{Count, LIMIT, MOST_POSITIONS, NoMemory, Node, Path, Pt, Seg, SegList, in_limit};
 use std::alloc::Global;
-use y_index::{Span, SpanList, YIndex};
+use y_index::{Span, YIndex};
 
 /// The corners of a star of twenty arms, closed.
 const CORNERS: &[(i64, i64)] = &[
@@ -91,26 +91,6 @@ fn edges_of(alloc: Global, ring: &Path) -> Result<SegList, NoMemory> {
         edges.push(Seg { a: *start, b: *end })?;
     }
     Ok(edges)
-}
-
-/// The heights of edges, in order.
-fn spans_of(alloc: Global, edges: &[Seg]) -> Result<SpanList, NoMemory>
-    ensures spans { IfOk result (λ spans. spans ≡ map heights edges.now) }
-{
-    let mut spans = SpanList::new(alloc);
-    for edge in edges {
-        spans.push(heights_of(*edge))?;
-    }
-    Ok(spans)
-}
-
-fn heights_of(edge: Seg) -> Span
-    ensures heights { result ≡ heights edge }
-{
-    Span {
-        low: edge.a.y.min(edge.b.y),
-        high: edge.a.y.max(edge.b.y),
-    }
 }
 
 fn are_edges(edges: &[Seg]) -> bool

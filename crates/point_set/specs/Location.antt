@@ -19,6 +19,10 @@ use Rattle.point_set.specs.Lines.{ends_of_lines, count_at, is_boundary_count, is
 abbrev pub rings_of : Area → List (List Pt)
 rings_of area = area.shell ∷ area.holes
 
+-- The areas of a figure without its lines and points.
+abbrev pub areas_alone : Figure → Figure
+areas_alone f = record { points = []; lines = []; areas = f.areas }
+
 -- The edges of several rings in order.
 abbrev pub edges_of_rings : List (List Pt) → List Seg
 edges_of_rings [] = []

@@ -1,3 +1,6 @@
+ghost use Rattle.std.specs.Prelude.{◌≡◌};
+ghost use Rattle.point_set.specs.Sides.{other_hand};
+
 use plane_exact::{ItemList, Seg};
 
 /// For an edge of a ring, the side on which the inside of its area lies; an edge of a line has none.
@@ -9,6 +12,19 @@ pub enum Hand {
     Left,
     /// The inside lies on the right.
     Right,
+}
+
+impl Hand {
+    /// The other hand: left for right, and right for left. An edge of a line has none on either way.
+    pub fn opposite(self) -> Hand
+        ensures other { result ≡ other_hand self }
+    {
+        match self {
+            Hand::Line => Hand::Line,
+            Hand::Left => Hand::Right,
+            Hand::Right => Hand::Left,
+        }
+    }
 }
 
 /// The line or the ring to which an edge belongs. Places count from 0.

@@ -3,7 +3,6 @@ ghost use Rattle.point_set.specs.Edges.{edges_of_lines, edges_of_areas, edges_of
 ghost use Rattle.point_set.specs.Location.{rings_of};
 ghost use Rattle.point_set.specs.Rings.{edges_after, edges_of as edges_of_way};
 ghost use Rattle.point_set.specs.Shape.{IsAreaShaped, IsRingShaped, IsWellShaped};
-ghost use Rattle.point_set.specs.Sides.{other_hand};
 ghost use Rattle.point_set.specs.Validity.{CrossesItself, HasHoleOutside, HasHolesThatOverlap, HasTooFewPoints, RingsShareSegment};
 ghost use Rattle.ring_sides.specs.Rows.{owned_edges, row_of, AddsArea, AddsRing, AddsRings, HasItsHand};
 
@@ -98,21 +97,10 @@ fn add_holes(rows: &mut EdgeRows, area: &Area, place: u32) -> Result<(), NoMemor
 {
     for (i, hole) in area.holes.as_slice().iter().enumerate() {
         let owner = Owner::Ring(place, i as u32 + 1);
-        let side = opposite(interior_side(hole));
+        let side = interior_side(hole).opposite();
         add_edges(rows, hole, owner, side)?;
     }
     Ok(())
-}
-
-/// The other hand.
-fn opposite(hand: Hand) -> Hand
-    ensures other { result ≡ other_hand hand }
-{
-    match hand {
-        Hand::Line => Hand::Line,
-        Hand::Left => Hand::Right,
-        Hand::Right => Hand::Left,
-    }
 }
 
 /// Adds the edges of a line or a ring, each with one owner and one hand.

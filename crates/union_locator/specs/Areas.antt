@@ -32,10 +32,6 @@ pub record AreNearAreas (areas : List Area) (p : Point) (places : List ℕ) : Ty
   pub within : All (λ place. place < length areas) places
   pub far : (place : ℕ) (area : Area) → IsAtPlace areas place area → ¬ Contains places place → location area p ≡ Exterior
 
--- The areas of a figure without its lines and points.
-abbrev pub areas_alone : Figure → Figure
-areas_alone f = record { points = []; lines = []; areas = f.areas }
-
 -- A valid figure, and lists of edges: those of each of its areas in order.
 pub record AreEdgesByArea (f : Figure) (lists : List (List Seg)) : Type 0 where
   pub valid : IsValid f

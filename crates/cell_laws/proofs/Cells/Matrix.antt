@@ -31,12 +31,12 @@ same_dimension? Two Two = inl refl
 same_dimension? Two e = inr (λ h. cc)
 
 -- there is a greatest
-record HasGreatest (Is : Dim → Type 0) : Type 0 where
-  d : Dim
-  is : IsGreatest Is d
+pub record HasGreatest (Is : Dim → Type 0) : Type 0 where
+  pub d : Dim
+  pub is : IsGreatest Is d
 
 -- where it is decided of each: Two, else One, else Zero, else none
-greatest_of : (Is : Dim → Type 0) → ((d : Dim) → Decided (Is d)) → HasGreatest Is
+pub greatest_of : (Is : Dim → Type 0) → ((d : Dim) → Decided (Is d)) → HasGreatest Is
 greatest_of Is decide = by_two (decide Two) (decide One) (decide Zero)
   where
     by_two : Decided (Is Two) → Decided (Is One) → Decided (Is Zero) → HasGreatest Is

@@ -15,14 +15,14 @@ use Rattle.point_set.specs.Relation.{IsInCell}
 use Rattle.point_set.specs.Sectors.{AreRaysAt, IsInSector}
 use Rattle.point_set.specs.Visible.{AreValid, LawSectorIsOne}
 use Rattle.plane_laws.proofs.Near.Away.{away_point, away_point_is}
-use Rattle.plane_laws.proofs.Segments.Mixes.{segment_flip, start_on_segment}
+use Rattle.plane_laws.proofs.Segments.Mixes.{start_on_segment}
 use Rattle.ring_laws.proofs.Germs.Areas.{clear_from}
 use Rattle.germ_laws.proofs.Rays.Neighbours.{between_rays, within_from}
 use Rattle.germ_laws.proofs.Sectors.Germ.{IsSum, ArePointed, cone_pointed, toward, toward_is, toward_sum, alike_within, alike_all}
 use Rattle.stay_laws.proofs.Stays.OffEdges.{pair_stays}
 use Rattle.cell_laws.proofs.Directions.Middles.{sector_free}
 use Rattle.cell_laws.proofs.Free.Nodes.{IsFree, open_cell}
-use Rattle.cell_laws.proofs.Free.Ways.{HasFreeWay, free_way, free_along}
+use Rattle.cell_laws.proofs.Free.Ways.{HasFreeWay, free_way, free_along, way_back}
 
 module _ (a b : Figure) (valid : AreValid a b) (rule : Rule) (v : Point) where
   -- a pair germ along one of the directions is one along the other
@@ -34,35 +34,23 @@ module _ (a b : Figure) (valid : AreValid a b) (rule : Rule) (v : Point) where
   by_third : (m d e : Direction) → AreAlike d m → AreAlike e m → AreAlike d e
   by_third m d e from_d from_e c = (λ g. (from_e c).1 ((from_d c).0 g), λ g. (from_d c).1 ((from_e c).0 g))
 
-  -- across a free way
-  pair_joined : (d e : Direction) → HasFreeWay a b v d e → AreAlike d e
-  pair_joined d e way c = (ahead, back)
+  -- a free way carries the germ across
+  carried : (d e : Direction) → HasFreeWay a b v d e → (c : Cell) → IsPairGerm a b rule v d c → IsPairGerm a b rule v e c
+  carried d e way c g = record {
+    from = way.from;
+    holds = λ l far q away.
+        pair_stays a b valid.a_shaped valid.b_shaped rule (away_point v d n) q
+        (λ m on.
+        let f = way.free (suc n) l (omega arith) far (away_point v d n) q (away_point_is v d n) away m on in
+        (f.off, f.lone)) c (g.holds (suc n) (omega arith) (away_point v d n) (away_point_is v d n));
+  }
     where
-      ahead : IsPairGerm a b rule v d c → IsPairGerm a b rule v e c
-      ahead g = record {
-        from = way.from;
-        holds = λ l far q away.
-            pair_stays a b valid.a_shaped valid.b_shaped rule (away_point v d n) q
-            (λ m on.
-            let f = way.free (suc n) l (omega arith) far (away_point v d n) q (away_point_is v d n) away m on in
-            (f.off, f.lone)) c (g.holds (suc n) (omega arith) (away_point v d n) (away_point_is v d n));
-      }
-        where
-          n : ℕ
-          n = g.from + way.from
+      n : ℕ
+      n = g.from + way.from
 
-      back : IsPairGerm a b rule v e c → IsPairGerm a b rule v d c
-      back g = record {
-        from = way.from;
-        holds = λ l far q away.
-            pair_stays a b valid.a_shaped valid.b_shaped rule (away_point v e n) q
-            (λ m on.
-            let f = way.free l (suc n) far (omega arith) q (away_point v e n) away (away_point_is v e n) m (segment_flip on) in
-            (f.off, f.lone)) c (g.holds (suc n) (omega arith) (away_point v e n) (away_point_is v e n));
-      }
-        where
-          n : ℕ
-          n = g.from + way.from
+  -- and back
+  pair_joined : (d e : Direction) → HasFreeWay a b v d e → AreAlike d e
+  pair_joined d e way c = (carried d e way c, carried e d (way_back way) c)
 
   -- along a direction in which no edge runs, the germ's cell holds a triangle
   free_triangle :

@@ -32,7 +32,7 @@ use Rattle.stay_laws.proofs.Stays.OffEdges.{no_position}
 use Rattle.cell_laws.proofs.Directions.Exist.{run_at}
 use Rattle.cell_laws.proofs.Directions.Middles.{middle_in_sector, sector_free}
 use Rattle.cell_laws.proofs.Free.Nodes.{IsFree, HasFreeRoom, free_room}
-use Rattle.cell_laws.proofs.Free.Ways.{HasFreeWay, free_along}
+use Rattle.cell_laws.proofs.Free.Ways.{HasFreeWay, free_in_sector}
 use Rattle.cell_laws.proofs.Samples.Same.{run_along}
 use Rattle.few_laws.proofs.LeftOut.Bare.{free_alone, part_stays, on_edge_inside, off_edges_outside}
 use Rattle.few_laws.proofs.LeftOut.Edges.{IsLeftOut}
@@ -128,9 +128,7 @@ module _ (a b : Figure) (shaped : IsWellShaped b) (rule : Rule) (v : Point) (o :
   }
     where
       way : HasFreeWay a b v s.middle s.middle
-      way =
-          free_along a b v s.middle
-          (sector_free v (segs_of_both a b) s.rays s.rays_are.rays_at s.i s.middle (middle_in_sector s.rays s.i s.middle s.middle_is))
+      way = free_in_sector s
 
       n : ℕ
       n = (s.germ.from + way.from) + far_for s.middle near_b.n

@@ -2,62 +2,18 @@
 use Rattle.std.proofs.Common.{◌≡◌, ◌⊎◌, inl, inr, Bool, true, false, List, refl, sym, ◌∙◌, subst}
 use Rattle.std.proofs.lemmas.Bool.{true≢false}
 use Rattle.plane_laws.specs.Plane.{Point, IsSamePoint}
-use Rattle.plane_exact.specs.Places.{point_of}
-use Rattle.plane_exact.specs.declared.point.Seg.{Seg}
 use Rattle.point_set.specs.declared.figure.Figure.{Figure}
 use Rattle.point_set.specs.Lines.{is_at_some}
 use Rattle.point_set.specs.Nodes.{IsFewNode, IsCrossing, segs_of, position, between, of_a, of_b}
 use Rattle.point_set.specs.Shape.{has_item}
 use Rattle.point_set.specs.Visible.{AreAllNodes}
 use Rattle.figure_laws.proofs.Lists.Items.{Each, each_left, each_right, AreKept, filtered}
-use Rattle.figure_laws.proofs.Lists.Least.{SomeItem, NoItem, search}
-use Rattle.node_laws.proofs.Nodes.Decided.{Cross, cross_or_not, cross_only, only_is_end, not_an_end}
+use Rattle.figure_laws.proofs.Lists.Least.{SomeItem}
+use Rattle.node_laws.proofs.Nodes.Decided.{EndsElsewhere, crossing_decided, not_an_end}
 use Rattle.node_laws.proofs.Nodes.Finite.{nodes_are_finite}
 use Rattle.node_laws.proofs.Nodes.Positions.{positions_of_both}
 use Rattle.cell_laws.proofs.Samples.Decided.{Decided}
-use Rattle.few_laws.proofs.Nodes.Crossings.{crossing_of, few_is_node, few_same}
-
--- ---- edges of which none ends at a point
--- neither end of an edge is p
-abbrev pub EndsElsewhere : Point → Seg → Type 0
-EndsElsewhere p e = (¬ IsSamePoint p (point_of e.a)) × (¬ IsSamePoint p (point_of e.b))
-
--- of such edges it is decided whether two cross at p
-crossing_decided : (p : Point) (edges others : List Seg) → Each (EndsElsewhere p) edges → Each (EndsElsewhere p) others
-    → Decided (IsCrossing edges others p)
-crossing_decided p edges others off off' =
-    by_search (search (λ e. SomeItem (Cross p e) others) (λ e. some_or (search (Cross p e) (cross_or_not p e) others)) edges)
-  where
-    some_or : {e : Seg} → SomeItem (Cross p e) others ⊎ NoItem (Cross p e) others → Decided (SomeItem (Cross p e) others)
-    some_or (inl s) = inl s
-    some_or (inr none) = inr (λ s. none s.place s.item s.item_is s.is_so)
-
-    by_search : SomeItem (λ e. SomeItem (Cross p e) others) edges ⊎ NoItem (λ e. SomeItem (Cross p e) others) edges
-        → Decided (IsCrossing edges others p)
-    by_search (inl s) = inl (crossing_of (record {
-      place = s.place;
-      item = s.item;
-      item_is = s.item_is;
-      is_so = record {
-        place = s.is_so.place;
-        item = s.is_so.item;
-        item_is = s.is_so.item_is;
-        is_so = cross_only s.is_so.is_so;
-      };
-    }))
-    by_search (inr none) = inr (λ c. none c.i c.e c.e_is (record {
-      place = c.j;
-      item = c.f;
-      item_is = c.f_is;
-      is_so = record {
-        on_e = c.meet.on_e;
-        on_f = c.meet.on_f;
-        apart =
-            let at_e = off c.i c.e c.e_is in
-            let at_f = off' c.j c.f c.f_is in
-            λ line. only_is_end at_e.0 at_e.1 at_f.0 line c.meet;
-      };
-    }))
+use Rattle.few_laws.proofs.Nodes.Crossings.{few_is_node, few_same}
 
 -- ---- a point at no position
 module _ (a b : Figure) (p : Point) (nowhere : is_at_some p (positions_of_both a b) ≡ false) where

@@ -23,7 +23,8 @@ use Rattle.few_laws.proofs.Nodes.Crossings.{crossing_split, few_is_node}
 use Rattle.few_laws.proofs.Nodes.Decided.{few_decided}
 use Rattle.few_laws.proofs.Seen.Beside.{seen_beside}
 use Rattle.few_laws.proofs.Seen.Nearest.{HasNearestFew, nearest_few, seen_along}
-use Rattle.few_laws.proofs.Seen.Turned.{few_turned, valid_turned, turned, sample_turned, seen_turned}
+use Rattle.figure_laws.proofs.Valid.Pairs.{valid_turned}
+use Rattle.few_laws.proofs.Seen.Turned.{few_turned, turned, sample_turned, seen_turned}
 
 -- ---- at a node that the edges of the first figure leave out
 -- a cell is its two parts

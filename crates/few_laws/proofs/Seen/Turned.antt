@@ -43,17 +43,12 @@ few_turned a b v (of_a some c) = of_b some c
 few_turned a b v (of_b some c) = of_a some c
 
 -- ---- samples
--- both figures are valid in the other order
-pub valid_turned : {a b : Figure} → AreValid a b → AreValid b a
-valid_turned valid =
-    record { a_shaped = valid.b_shaped; b_shaped = valid.a_shaped; a_valid = valid.b_valid; b_valid = valid.a_valid }
-
 -- the cell with its parts exchanged
 abbrev pub turned : Cell → Cell
 turned c = cell c.b c.a
 
 -- a point of the cell
-cell_turned : (a b : Figure) (rule : Rule) (c : Cell) (p : Point) → IsInCell a b rule c p → IsInCell b a rule (turned c) p
+pub cell_turned : (a b : Figure) (rule : Rule) (c : Cell) (p : Point) → IsInCell a b rule c p → IsInCell b a rule (turned c) p
 cell_turned a b rule c p at = record { in_a = at.in_b; in_b = at.in_a }
 
 -- a germ

@@ -32,6 +32,15 @@ search IsSo decide (x ∷ xs) = go (decide x) (search IsSo decide xs)
     go (inr n) (inl s) = inl (record { place = suc s.place; item = s.item; item_is = s.item_is; is_so = s.is_so })
     go (inr n) (inr none) = inr (by_place x xs (λ item. ¬ IsSo item) n none)
 
+-- so it is decided whether some item is so
+pub some_or_not : {X : Type 0} (IsSo : X → Type 0) → ((x : X) → IsSo x ⊎ (¬ IsSo x)) → (items : List X)
+    → SomeItem IsSo items ⊎ (¬ SomeItem IsSo items)
+some_or_not IsSo decide items = by_search (search IsSo decide items)
+  where
+    by_search : SomeItem IsSo items ⊎ NoItem IsSo items → SomeItem IsSo items ⊎ (¬ SomeItem IsSo items)
+    by_search (inl some) = inl some
+    by_search (inr none) = inr (λ some. none some.place some.item some.item_is some.is_so)
+
 -- ---- the least
 module _ {X : Type 0} (Good : X → Type 0) (Before : X → X → Type 0) (decide : (x : X) → Good x ⊎ (¬ Good x))
     (either : (x y : X) → Good x → Good y → Before x y ⊎ Before y x)

@@ -13,7 +13,7 @@ use Rattle.point_set.specs.declared.edge.Owner.TheVariants.{Ring}
 use Rattle.point_set.specs.declared.figure.Area.{Area}
 use Rattle.point_set.specs.declared.figure.Figure.{Figure}
 use Rattle.point_set.specs.Edges.{edges_of_figure}
-use Rattle.point_set.specs.Location.{edges_of_rings, rings_of}
+use Rattle.point_set.specs.Location.{areas_alone, edges_of_rings, rings_of}
 use Rattle.point_set.specs.Nodes.{RunsFrom, rings_of_areas, segs_of, segs_of_both}
 use Rattle.point_set.specs.Rings.{is_on_edge, is_on_edges}
 use Rattle.point_set.specs.Sectors.{AreRaysAt}
@@ -24,53 +24,13 @@ use Rattle.plane_laws.proofs.Segments.Mixes.{start_on_segment, end_on_segment}
 use Rattle.figure_laws.proofs.Edges.Lists.{none_joined, segs_are}
 use Rattle.figure_laws.proofs.Edges.Owners.{area_edge}
 use Rattle.figure_laws.proofs.Lists.Items.{place_left}
+use Rattle.figure_laws.proofs.Valid.Alone.{alone_shaped, alone_valid}
+use Rattle.figure_laws.proofs.Valid.Pairs.{are_valid}
 use Rattle.ring_laws.proofs.Germs.Areas.{edge_along}
 use Rattle.ring_laws.proofs.Germs.Edges.{Decides-is_toward}
 use Rattle.germ_laws.proofs.Rays.Ways.{place_of_seg}
 use Rattle.kind_laws.proofs.Cover.Inside.{on_some_edge}
 use Rattle.cell_laws.proofs.Directions.Exist.{HasDirections, HasSector, directions_exist, run_at, sector_of_direction}
-
--- ---- a figure's areas alone
--- the figure without its lines and points
-abbrev areas_alone : Figure → Figure
-areas_alone f = record { points = []; lines = []; areas = f.areas }
-
--- it keeps its shape
-alone_shaped : (f : Figure) → IsWellShaped f → IsWellShaped (areas_alone f)
-alone_shaped f shaped = record {
-  points = All-nil IsInLimit;
-  lines = All-nil IsLineShaped;
-  areas = shaped.areas;
-  few = let h = shaped.few in omega (arith, h);
-}
-
--- what fails in one area failed before
-some_alone : (f : Figure) (place : ℕ) {IsSo : Area → Type 0} → SomeArea (areas_alone f) place IsSo → SomeArea f place IsSo
-some_alone f place h = record { area = h.area; area_is = h.area_is; is_so = h.is_so }
-
--- and in two
-earlier_alone : (f : Figure) (place : ℕ) {IsSo : Area → Area → Type 0} → SomeEarlier (areas_alone f) place IsSo → SomeEarlier f place IsSo
-earlier_alone f place h = record {
-  area = h.area;
-  area_is = h.area_is;
-  before = h.before;
-  earlier = h.earlier;
-  other = h.other;
-  other_is = h.other_is;
-  same_group = h.same_group;
-  is_so = h.is_so;
-}
-
--- so it stays valid
-alone_valid : (f : Figure) → IsValid f → IsValid (areas_alone f)
-alone_valid f valid place too_few_points h = valid place too_few_points (some_alone f place h)
-alone_valid f valid place ring_cross h = valid place ring_cross (some_alone f place h)
-alone_valid f valid place rings_share_edge h = valid place rings_share_edge (some_alone f place h)
-alone_valid f valid place hole_outside h = valid place hole_outside (some_alone f place h)
-alone_valid f valid place holes_overlap h = valid place holes_overlap (some_alone f place h)
-alone_valid f valid place disconnected h = valid place disconnected (some_alone f place h)
-alone_valid f valid place elements_share_edge h = valid place elements_share_edge (earlier_alone f place h)
-alone_valid f valid place elements_overlap h = valid place elements_overlap (earlier_alone f place h)
 
 -- ---- along an edge
 -- where an edge runs along a direction, points along it are on the edges
@@ -128,7 +88,7 @@ area_directions f shaped valid v = record {
     found =
         let alone_is = alone_shaped f shaped in
         let stays = alone_valid f valid in
-        directions_exist alone alone (record { a_shaped = alone_is; b_shaped = alone_is; a_valid = stays; b_valid = stays }) v
+        directions_exist alone alone (are_valid alone_is stays alone_is stays) v
 
     on_areas :
         (p : Point) → is_on_edges p (segs_of_both alone alone) ≡ true → is_on_edges p (edges_of_rings (rings_of_areas f.areas)) ≡ true

@@ -32,6 +32,8 @@ use Rattle.kind_laws.proofs.Location.Decided.{HasSectorWay, sector_way}
 use Rattle.cell_laws.proofs.Cells.Outside.{outside_holds_triangle}
 use Rattle.cell_laws.proofs.Directions.Exist.{HasDirections, directions_exist}
 use Rattle.cell_laws.proofs.Germs.Sectors.{sector_is_one}
+use Rattle.figure_laws.proofs.Valid.Pairs.{valid_turned}
+use Rattle.few_laws.proofs.Seen.Turned.{cell_turned}
 use Rattle.near_laws.proofs.Beyond.Areas.{area_boundary}
 use Rattle.near_laws.proofs.Beyond.Inside.{HasInsideOut, inside_out, HasAreaAt, area_at}
 use Rattle.near_laws.proofs.Beyond.Lines.{points_shown, ends_shown, lines_shown, germ_out}
@@ -122,11 +124,6 @@ boundary_there a b valid rule x is w holds = by (sticks_out x.areas w) refl (sti
     by false h false i = tt
 
 -- ---- two figures
--- the two figures the other way round
-swapped_valid : (a b : Figure) → AreValid a b → AreValid b a
-swapped_valid a b valid =
-    record { a_shaped = valid.b_shaped; b_shaped = valid.a_shaped; a_valid = valid.b_valid; b_valid = valid.a_valid }
-
 -- the box holds their common part
 swapped_holds : (a b : Figure) (rule : Rule) (w : Option Window) → HoldsCommonPart a b rule w → HoldsCommonPart b a rule w
 swapped_holds a b rule w holds p = by (holds p)
@@ -138,26 +135,22 @@ swapped_holds a b rule w holds p = by (holds p)
     by (inr (inl h)) = inl h
     by (inr (inr h)) = inr (inr h)
 
--- and the cells
-swapped_cell : (a b : Figure) (rule : Rule) (x y : Loc) (p : Point) → IsInCell b a rule (cell x y) p → IsInCell a b rule (cell y x) p
-swapped_cell a b rule x y p h = record { in_a = h.in_b; in_b = h.in_a }
-
 -- part by part
 pub beyond_is_there : (a b : Figure) → AreValid a b → (rule : Rule) → LawBeyondIsThere a b rule
 beyond_is_there a b valid rule x y is_x is_y w holds c = by c.a c.b
   where
     back : AreValid b a
-    back = swapped_valid a b valid
+    back = valid_turned valid
 
     by : (p q : Loc) → ShowsDimension (IsInCell a b rule (cell p q)) (beyond_parts x y w p q)
     by Exterior Exterior = outside_holds_triangle a b valid rule
     by Interior Exterior = interior_there a b valid rule x is_x w holds
     by Boundary Exterior = boundary_there a b valid rule x is_x w holds
     by Exterior Interior =
-        shows_map (swapped_cell a b rule Interior Exterior) (beyond y w Interior)
+        shows_map (cell_turned b a rule (cell Interior Exterior)) (beyond y w Interior)
         (interior_there b a back rule y is_y w (swapped_holds a b rule w holds))
     by Exterior Boundary =
-        shows_map (swapped_cell a b rule Boundary Exterior) (beyond y w Boundary)
+        shows_map (cell_turned b a rule (cell Boundary Exterior)) (beyond y w Boundary)
         (boundary_there b a back rule y is_y w (swapped_holds a b rule w holds))
     by Interior Interior = tt
     by Interior Boundary = tt

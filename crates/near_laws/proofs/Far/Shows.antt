@@ -37,8 +37,7 @@ use Rattle.figure_laws.proofs.Edges.Lists.{none_append, segs_are}
 use Rattle.figure_laws.proofs.Points.Kinds.{one_part, interior_is_covered}
 use Rattle.stay_laws.proofs.Even.Even.{still_none}
 use Rattle.stay_laws.proofs.Stays.OffEdges.{interior_off_edges, no_position}
-use Rattle.cell_laws.proofs.Directions.Middles.{middle_in_sector, sector_free}
-use Rattle.cell_laws.proofs.Free.Ways.{free_along}
+use Rattle.cell_laws.proofs.Free.Ways.{free_in_sector}
 use Rattle.near_laws.proofs.Boxes.Round.{far_is_out}
 use Rattle.near_laws.proofs.Envelopes.Hold.{shows_out, covered_in, line_in, point_in, end_in, bound_at_end}
 use Rattle.near_laws.proofs.Far.Bare.{bare_point}
@@ -194,13 +193,18 @@ one_exterior a b rule w holds c q out at = by (holds q)
 module _ (a b : Figure) (valid : AreValid a b) (rule : Rule) (x y : Extent) (is_x : IsExtent a rule x) (is_y : IsExtent b rule y)
     (w : Option Window) (holds : HoldsCommonPart a b rule w) (v : Point) (out : ¬ IsInBox w v) (c : Cell)
   where
+    -- what both envelopes tell of the kinds at a point outside of the box is told of its cell
+    told_there : (n : ℕ) → n ≤ 3 → (q : Point) → ¬ IsInBox w q → IsInCell a b rule c q
+        → ((k : DimLoc) → IsKind a rule q k → IsTold x w n (part_of k)) → ((k : DimLoc) → IsKind b rule q k → IsTold y w n (part_of k))
+        → n ≤ rank (beyond_cell x y w c)
+    told_there n few q outside at told_a told_b =
+        told_together x y w n few c.a c.b (told_of_location a valid.a_shaped rule x is_x w q outside n told_a c.a at.in_a)
+        (told_of_location b valid.b_shaped rule y is_y w q outside n told_b c.b at.in_b) (one_exterior a b rule w holds c q outside at)
+
     -- at the point itself
     at_point : IsInCell a b rule c v → 1 ≤ rank (beyond_cell x y w c)
     at_point at =
-        told_together x y w 1 (omega arith) c.a c.b
-        (told_of_location a valid.a_shaped rule x is_x w v out 1 (told_zero a valid.a_shaped rule x is_x w v out) c.a at.in_a)
-        (told_of_location b valid.b_shaped rule y is_y w v out 1 (told_zero b valid.b_shaped rule y is_y w v out) c.b at.in_b)
-        (one_exterior a b rule w holds c v out at)
+        told_there 1 (omega arith) v out at (told_zero a valid.a_shaped rule x is_x w v out) (told_zero b valid.b_shaped rule y is_y w v out)
 
     -- the positions and the line ends of both
     all_ends : List Pt
@@ -217,18 +221,13 @@ module _ (a b : Figure) (valid : AreValid a b) (rule : Rule) (x y : Extent) (is_
         let both = none_append (is_at q) (all_positions a ++ ends_of_lines a.lines) (all_positions b ++ ends_of_lines b.lines) p.bare in
         let in_a = none_append (is_at q) (all_positions a) (ends_of_lines a.lines) both.0 in
         let in_b = none_append (is_at q) (all_positions b) (ends_of_lines b.lines) both.1 in
-        told_together x y w 2 (omega arith) c.a c.b
-        (told_of_location a valid.a_shaped rule x is_x w q p.out 2 (told_one a valid.a_shaped rule x is_x w q p.out in_a.0 in_a.1) c.a
-        at.in_a)
-        (told_of_location b valid.b_shaped rule y is_y w q p.out 2 (told_one b valid.b_shaped rule y is_y w q p.out in_b.0 in_b.1) c.b
-        at.in_b)
-        (one_exterior a b rule w holds c q p.out at)
+        told_there 2 (omega arith) q p.out at (told_one a valid.a_shaped rule x is_x w q p.out in_a.0 in_a.1)
+        (told_one b valid.b_shaped rule y is_y w q p.out in_b.0 in_b.1)
 
     -- in a sector
     within : IsSeenInSector a b rule v c → 3 ≤ rank (beyond_cell x y w c)
     within s =
-        let sector = middle_in_sector s.rays s.i s.middle s.middle_is in
-        let way = free_along a b v s.middle (sector_free v (segs_of_both a b) s.rays s.rays_are.rays_at s.i s.middle sector) in
+        let way = free_in_sector s in
         let p = bare_point w [] v s.middle (s.germ.from + way.from) out in
         let far = p.far in
         let q = away_point v s.middle p.m in
@@ -237,12 +236,8 @@ module _ (a b : Figure) (valid : AreValid a b) (rule : Rule) (x y : Extent) (is_
         let free = way.free (suc p.m) (suc p.m) (omega (arith, far)) (omega (arith, far)) q q away away q (start_on_segment q q) in
         let off = none_append (is_on_edge q) (segs_of a) (segs_of b) free.off in
         let lone = no_position a b q free.lone in
-        told_together x y w 3 (omega arith) c.a c.b
-        (told_of_location a valid.a_shaped rule x is_x w q p.out 3 (told_two a valid.a_shaped rule x is_x w q p.out lone.0 off.0) c.a
-        at.in_a)
-        (told_of_location b valid.b_shaped rule y is_y w q p.out 3 (told_two b valid.b_shaped rule y is_y w q p.out lone.1 off.1) c.b
-        at.in_b)
-        (one_exterior a b rule w holds c q p.out at)
+        told_there 3 (omega arith) q p.out at (told_two a valid.a_shaped rule x is_x w q p.out lone.0 off.0)
+        (told_two b valid.b_shaped rule y is_y w q p.out lone.1 off.1)
 
     -- each sample
     sample_told : (d : Dim) → IsSampleAt a b rule v c d → rank d ≤ rank (beyond_cell x y w c)

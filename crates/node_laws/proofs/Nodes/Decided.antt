@@ -1,5 +1,5 @@
 -- A node is decided: a position is one, and else a point on two edges that aren't on one line.
-use Rattle.std.proofs.Common.{◌≡◌, ◌⊎◌, inl, inr, ℕ, pos, Bool, true, false, refl, sym, ◌∙◌}
+use Rattle.std.proofs.Common.{◌≡◌, ◌⊎◌, inl, inr, pos, Bool, true, false, List, refl, sym, ◌∙◌}
 use Rattle.std.proofs.lemmas.Bool.{true≢false}
 use Rattle.plane_laws.proofs.Segments.Mixes.{segment_same, start_on_segment}
 use Rattle.plane_laws.proofs.Points.Same.{same_refl, same_sym, same_trans}
@@ -16,7 +16,8 @@ use Rattle.point_set.specs.Validity.{IsAtPlace, IsOnEdge}
 use Rattle.point_set.specs.Nodes.{IsNode, IsCrossing, IsOnlyCommonPoint, position, crossing, segs_of_both}
 use Rattle.node_laws.specs.Seen.{LawNodeIsDecided}
 use Rattle.node_laws.proofs.Nodes.Edges.{edge_true}
-use Rattle.figure_laws.proofs.Lists.Least.{SomeItem, NoItem, search}
+use Rattle.figure_laws.proofs.Lists.Items.{Each}
+use Rattle.figure_laws.proofs.Lists.Least.{SomeItem, some_or_not}
 use Rattle.meeting_laws.proofs.Ways.OneLine.{zero_or_not, same_or_not, another, one_line}
 use Rattle.node_laws.proofs.Nodes.Positions.{IsAtOne, positions_of_both, ends_are_positions}
 
@@ -78,6 +79,48 @@ only_is_end {p} {e} {f} not_a not_b not_f line c =
     let m = another (point_of e.a) (point_of e.b) (point_of f.a) p c.on_e not_a not_b (λ s. not_f (same_sym s)) line.0 in
     m.apart (c.only m.m m.on_first (segment_within (start_on_segment (point_of f.a) (point_of f.b)) c.on_f m.on_second))
 
+-- ---- edges of which none ends at a point
+-- neither end of an edge is p
+abbrev pub EndsElsewhere : Point → Seg → Type 0
+EndsElsewhere p e = (¬ IsSamePoint p (point_of e.a)) × (¬ IsSamePoint p (point_of e.b))
+
+-- two such edges of which it is the only common point aren't on one line
+pub crossing_apart : (p : Point) (edges others : List Seg) → Each (EndsElsewhere p) edges → Each (EndsElsewhere p) others
+    → (c : IsCrossing edges others p) → ¬ IsOnLineOf c.e c.f
+crossing_apart p edges others off off' c line =
+    let at_e = off c.i c.e c.e_is in
+    let at_f = off' c.j c.f c.f_is in
+    only_is_end at_e.0 at_e.1 at_f.0 line c.meet
+
+-- of such edges it is decided whether two cross at p
+pub crossing_decided : (p : Point) (edges others : List Seg) → Each (EndsElsewhere p) edges → Each (EndsElsewhere p) others
+    → IsCrossing edges others p ⊎ (¬ IsCrossing edges others p)
+crossing_decided p edges others off off' =
+    by_pair (some_or_not (λ e. SomeItem (Cross p e) others) (λ e. some_or_not (Cross p e) (cross_or_not p e) others) edges)
+  where
+    by_pair : SomeItem (λ e. SomeItem (Cross p e) others) edges ⊎ (¬ SomeItem (λ e. SomeItem (Cross p e) others) edges)
+        → IsCrossing edges others p ⊎ (¬ IsCrossing edges others p)
+    by_pair (inl s) = inl (record {
+      i = s.place;
+      j = s.is_so.place;
+      e = s.item;
+      f = s.is_so.item;
+      e_is = s.item_is;
+      f_is = s.is_so.item_is;
+      meet = cross_only s.is_so.is_so;
+    })
+    by_pair (inr none) = inr (λ c. none (record {
+      place = c.i;
+      item = c.e;
+      item_is = c.e_is;
+      is_so = record {
+        place = c.j;
+        item = c.f;
+        item_is = c.f_is;
+        is_so = record { on_e = c.meet.on_e; on_f = c.meet.on_f; apart = crossing_apart p edges others off off' c };
+      };
+    }))
+
 -- ---- a point at no position
 module _ (a b : Figure) (p : Point) (nowhere : is_at_some p (positions_of_both a b) ≡ false) where
   -- p isn't at any of the positions
@@ -85,49 +128,21 @@ module _ (a b : Figure) (p : Point) (nowhere : is_at_some p (positions_of_both a
   not_at {q} at s = true≢false (sym at ∙ sym (is_at_some-same s (positions_of_both a b)) ∙ nowhere)
 
   -- no end of an edge is there
-  pub not_an_end : (i : ℕ) (e : Seg) → IsAtPlace (segs_of_both a b) i e → (¬ IsSamePoint p (point_of e.a))
-      × (¬ IsSamePoint p (point_of e.b))
+  pub not_an_end : Each (EndsElsewhere p) (segs_of_both a b)
   not_an_end i e is = let ends = ends_are_positions a b i e is in (not_at ends.0, not_at ends.1)
-
-  -- edges of which it is the only common point aren't on one line
-  pub crossing_apart : (c : IsCrossing (segs_of_both a b) (segs_of_both a b) p) → ¬ IsOnLineOf c.e c.f
-  crossing_apart c line =
-      let at_e = not_an_end c.i c.e c.e_is in
-      let at_f = not_an_end c.j c.f c.f_is in
-      only_is_end at_e.0 at_e.1 at_f.0 line c.meet
 
   -- p is a node exactly where two edges cross there
   decided : IsNode a b p ⊎ (¬ IsNode a b p)
-  decided = go (search (λ e. SomeItem (Cross p e) (segs_of_both a b))
-      (λ e. search_or (search (Cross p e) (cross_or_not p e) (segs_of_both a b))) (segs_of_both a b))
+  decided = by_crossing (crossing_decided p (segs_of_both a b) (segs_of_both a b) not_an_end not_an_end)
     where
-      search_or : {e : Seg} → SomeItem (Cross p e) (segs_of_both a b) ⊎ NoItem (Cross p e) (segs_of_both a b)
-          → SomeItem (Cross p e) (segs_of_both a b) ⊎ (¬ SomeItem (Cross p e) (segs_of_both a b))
-      search_or (inl s) = inl s
-      search_or (inr n) = inr (λ s. n s.place s.item s.item_is s.is_so)
-
-      not_node : NoItem (λ e. SomeItem (Cross p e) (segs_of_both a b)) (segs_of_both a b) → ¬ IsNode a b p
-      not_node n (position at) = true≢false (sym at ∙ nowhere)
-      not_node n (crossing c) = n c.i c.e c.e_is (record {
-        place = c.j;
-        item = c.f;
-        item_is = c.f_is;
-        is_so = record { on_e = c.meet.on_e; on_f = c.meet.on_f; apart = crossing_apart c };
-      })
-
-      go : SomeItem (λ e. SomeItem (Cross p e) (segs_of_both a b)) (segs_of_both a b)
-          ⊎ NoItem (λ e. SomeItem (Cross p e) (segs_of_both a b)) (segs_of_both a b)
+      by_crossing : IsCrossing (segs_of_both a b) (segs_of_both a b) p ⊎ (¬ IsCrossing (segs_of_both a b) (segs_of_both a b) p)
           → IsNode a b p ⊎ (¬ IsNode a b p)
-      go (inl s) = inl (crossing (record {
-        i = s.place;
-        j = s.is_so.place;
-        e = s.item;
-        f = s.is_so.item;
-        e_is = s.item_is;
-        f_is = s.is_so.item_is;
-        meet = cross_only s.is_so.is_so;
-      }))
-      go (inr n) = inr (not_node n)
+      by_crossing (inl c) = inl (crossing c)
+      by_crossing (inr none) = inr refute
+        where
+          refute : ¬ IsNode a b p
+          refute (position at) = true≢false (sym at ∙ nowhere)
+          refute (crossing c) = none c
 
 -- whether a point is a node is decided
 pub node_is_decided : LawNodeIsDecided

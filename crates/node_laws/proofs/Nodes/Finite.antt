@@ -21,7 +21,7 @@ use Rattle.point_set.specs.Visible.{AreAllNodes}
 use Rattle.node_laws.specs.Seen.{LawNodesAreFinite}
 use Rattle.figure_laws.proofs.Lists.Items.{some_left, some_right, some_map, AreKept, filtered}
 use Rattle.figure_laws.proofs.Lists.Least.{SomeItem, by_place}
-use Rattle.node_laws.proofs.Nodes.Decided.{IsOnLineOf, crossing_apart, node_is_decided, node_same}
+use Rattle.node_laws.proofs.Nodes.Decided.{IsOnLineOf, crossing_apart, node_is_decided, node_same, not_an_end}
 use Rattle.node_laws.proofs.Nodes.Positions.{positions_of_both, at_some}
 
 -- ---- the common points of two segments
@@ -177,7 +177,8 @@ module _ (a b : Figure) where
       go true at = at_candidate v at
       go false at =
           some_right (IsSamePoint v) (map point_of (positions_of_both a b)) crossings.points
-          (crossings.whole c.e (c.i, c.e_is) c.j c.f c.f_is v c.meet.on_e c.meet.on_f (crossing_apart a b v at c))
+          (crossings.whole c.e (c.i, c.e_is) c.j c.f c.f_is v c.meet.on_e c.meet.on_f
+          (crossing_apart v (segs_of_both a b) (segs_of_both a b) (not_an_end a b v at) (not_an_end a b v at) c))
 
   -- those that are nodes
   kept_nodes : (nodes : List Point) × AreKept (IsNode a b) candidates nodes

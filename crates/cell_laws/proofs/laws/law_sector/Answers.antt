@@ -1,4 +1,4 @@
-use Rattle.point_set.specs.Visible.{AreValid}
+use Rattle.figure_laws.proofs.Valid.Pairs.{are_valid}
 use Rattle.stay_laws.proofs.Stays.Germs.{pair_germ_exists}
 use Rattle.cell_laws.proofs.laws.law_sector.Goals as goal
 use Rattle.cell_laws.proofs.Germs.Along.{germ_holds_segment}
@@ -6,12 +6,7 @@ use Rattle.cell_laws.proofs.Germs.Sectors.{sector_is_one}
 
 pub returns : goal.returns
 returns c =
-    let valid : AreValid c.args.a.now c.args.b.now = record {
-      a_shaped = c.figure.ensures.shaped;
-      b_shaped = c.figure-2.ensures.shaped;
-      a_valid = c.figure.ensures.valid;
-      b_valid = c.figure-2.ensures.valid;
-    } in
+    let valid = are_valid c.figure.ensures.shaped c.figure.ensures.valid c.figure-2.ensures.shaped c.figure-2.ensures.valid in
     record {
       germ = pair_germ_exists c.args.a.now c.args.b.now valid c.args.rule;
       segment = germ_holds_segment c.args.a.now c.args.b.now valid c.args.rule;

@@ -1,4 +1,4 @@
-use Rattle.point_set.specs.Visible.{AreValid}
+use Rattle.figure_laws.proofs.Valid.Pairs.{are_valid}
 use Rattle.near_laws.proofs.laws.law_near.Goals as goal
 use Rattle.near_laws.proofs.Beyond.Shown.{beyond_is_there}
 use Rattle.near_laws.proofs.Boxes.Edges.{near_edges_meet}
@@ -8,12 +8,7 @@ use Rattle.near_laws.proofs.Far.Shows.{far_shows_no_more}
 
 pub returns : goal.returns
 returns c =
-    let valid : AreValid c.args.a.now c.args.b.now = record {
-      a_shaped = c.figure.ensures.shaped;
-      b_shaped = c.figure-2.ensures.shaped;
-      a_valid = c.figure.ensures.valid;
-      b_valid = c.figure-2.ensures.valid;
-    } in
+    let valid = are_valid c.figure.ensures.shaped c.figure.ensures.valid c.figure-2.ensures.shaped c.figure-2.ensures.valid in
     record {
       frame = frame_holds c.args.a.now valid.a_shaped c.args.rule;
       beyond = beyond_is_there c.args.a.now c.args.b.now valid c.args.rule;

@@ -1,0 +1,3 @@
+-- Valid figures: two of them, and the areas of one alone.
+pub mod Alone
+pub mod Pairs
