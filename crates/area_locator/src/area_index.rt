@@ -5,7 +5,7 @@ ghost use Rattle.point_set.specs.Validity.{IsAtPlace};
 use crate::edges::AreaEdges;
 use crate::indexed::locate_by;
 use im_matrix::Loc;
-use plane_exact::{Meter, NoMemory, Node, Seg, SegList};
+use plane_exact::{Meter, NoMemory, Node, Seg, SegList, in_limit};
 use point_set::{Area, Valid};
 use std::alloc::Global;
 use std::marker::Model;
@@ -149,6 +149,19 @@ pub(crate) fn edges_in(alloc: Global, area: &Area) -> Result<SegList, NoMemory>
         edges.push(edge)?;
     }
     Ok(edges)
+}
+
+/// Whether each edge has two different ends within the limit: what an index is made of.
+pub fn are_edges(edges: &[Seg]) -> bool
+    ensures edges { IsTrue result ↔ (All IsEdge edges.now) }
+{
+    edges.iter().all(|edge| is_edge(*edge))
+}
+
+fn is_edge(edge: Seg) -> bool
+    ensures edge { IsTrue result ↔ (IsEdge edge) }
+{
+    in_limit(edge.a) && in_limit(edge.b) && edge.a != edge.b
 }
 
 /// The heights of edges, in order: what an index over edges is built of.

@@ -1,17 +1,13 @@
 //! Locations by an index over heights, beside those that were worked out by hand.
-ghost use Rattle.std.specs.Prelude.{IsTrue, ◌↔◌, ◌≡◌, ◌≤◌, All, length};
-ghost use Rattle.area_locator.specs.Indexed.{IsEdge};
-ghost use Rattle.y_index.specs.Trees.{IsSpan};
-
-use crate::area_index::{AreaIndex, edges_in, first_difference, spans_of};
+use crate::area_index::{AreaIndex, are_edges, edges_in, first_difference, spans_of};
 use crate::indexed::locate_by;
 use im_matrix::Loc;
-use plane_exact::{Count, LIMIT, NoMemory, Node, Path, Pt, Seg, SegList, in_limit};
+use plane_exact::{Count, NoMemory, Node, Path, Pt, Seg, SegList};
 use point_set::{Area, Paths};
 use std::alloc::Global;
 use std::process::Abort;
 use std::test::Fail;
-use y_index::{Span, SpanList, YIndex};
+use y_index::{YIndex, are_spans};
 
 const SHELL: &[(i64, i64)] = &[(0, 0), (9, 0), (9, 9), (0, 9), (0, 0)];
 
@@ -19,30 +15,6 @@ const HOLE: &[(i64, i64)] = &[(3, 3), (6, 3), (6, 6), (3, 6), (3, 3)];
 
 /// How many teeth the comb has.
 const TEETH: u8 = 50;
-
-fn is_edge(edge: Seg) -> bool
-    ensures edge { IsTrue result ↔ (IsEdge edge) }
-{
-    in_limit(edge.a) && in_limit(edge.b) && edge.a != edge.b
-}
-
-fn are_edges(edges: &SegList) -> bool
-    ensures edges { IsTrue result ↔ (All IsEdge edges.now) }
-{
-    edges.as_slice().iter().all(|edge| is_edge(*edge))
-}
-
-fn is_span(span: Span) -> bool
-    ensures span { IsTrue result ↔ (IsSpan span) }
-{
-    span.low <= span.high && -LIMIT <= span.low && span.high <= LIMIT
-}
-
-fn are_spans(spans: &SpanList) -> bool
-    ensures spans { IsTrue result ↔ (All IsSpan spans.now) }
-{
-    spans.as_slice().iter().all(|span| is_span(*span))
-}
 
 fn ring_of(alloc: Global, positions: &[(i64, i64)]) -> Result<Path, NoMemory> {
     let mut ring = Path::new(alloc);
@@ -101,9 +73,9 @@ fn located(
 ) -> Result<(Loc, u64), NoMemory> {
     let mut meter = Count::new();
     assert!(rt; edges.len() <= 1_048_576);
-    assert!(rt; are_edges(edges));
+    assert!(rt; are_edges(edges.as_slice()));
     let spans = spans_of(alloc, edges.as_slice())?;
-    assert!(rt; are_spans(&spans));
+    assert!(rt; are_spans(spans.as_slice()));
     let rows = YIndex::build(alloc, &spans)?;
     let loc = locate_by(&rows, edges, n, &mut meter);
     Ok((loc, meter.ticks()))
@@ -153,7 +125,7 @@ fn an_index_of_an_area(rt: HostRuntime) -> Result<(), Fail> {
     let area = area_of(rt.alloc())?;
     let edges = edges_in(rt.alloc(), &area)?;
     assert!(rt; edges.len() <= 1_048_576);
-    assert!(rt; are_edges(&edges));
+    assert!(rt; are_edges(edges.as_slice()));
     assert_eq!(rt; first_difference(&edges, &area), None);
     let index = AreaIndex::over(rt.alloc(), edges)?;
     let mut meter = Count::new();

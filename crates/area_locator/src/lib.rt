@@ -15,7 +15,7 @@ mod touch;
 mod ways;
 
 pub use area::locate_plain;
-pub use area_index::{AreaIndex, spans_of};
+pub use area_index::{AreaIndex, are_edges, spans_of};
 pub use indexed::locate_by;
 pub use laws::{law_areas_of_valid_figures_are_valid, law_one_count_locates_in_valid_areas};
 pub use ring::ring_locate;

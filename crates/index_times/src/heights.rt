@@ -1,15 +1,14 @@
-ghost use Rattle.std.specs.Prelude.{◌≡◌, ◌↔◌, ◌≤◌, All, IfOk, IsTrue, length, map};
+ghost use Rattle.std.specs.Prelude.{◌↔◌, All, IsTrue};
 ghost use Rattle.area_locator.specs.Indexed.{AreRowsOfEdges, IsEdge};
 ghost use Rattle.point_set.specs.Shape.{IsWayInLimit};
 ghost use Rattle.y_index.specs.Index.{rows_of};
-ghost use Rattle.y_index.specs.Trees.{IsSpan};
 
 use crate::random::Random;
-use area_locator::{locate_by, ring_locate, spans_of};
+use area_locator::{are_edges, locate_by, ring_locate, spans_of};
 use im_matrix::Loc;
-use plane_exact::{Count, LIMIT, MOST_POSITIONS, NoMemory, Node, Path, Pt, Seg, SegList, in_limit};
+use plane_exact::{Count, MOST_POSITIONS, NoMemory, Path, Pt, Seg, SegList, in_limit};
 use std::alloc::Global;
-use y_index::{Span, YIndex};
+use y_index::{YIndex, are_spans};
 
 /// The corners of a star of twenty arms, closed.
 const CORNERS: &[(i64, i64)] = &[
@@ -91,30 +90,6 @@ fn edges_of(alloc: Global, ring: &Path) -> Result<SegList, NoMemory> {
         edges.push(Seg { a: *start, b: *end })?;
     }
     Ok(edges)
-}
-
-fn are_edges(edges: &[Seg]) -> bool
-    ensures edges { IsTrue result ↔ (All IsEdge edges.now) }
-{
-    edges.iter().all(|edge| is_edge(*edge))
-}
-
-fn is_edge(edge: Seg) -> bool
-    ensures edge { IsTrue result ↔ (IsEdge edge) }
-{
-    in_limit(edge.a) && in_limit(edge.b) && edge.a != edge.b
-}
-
-fn are_spans(spans: &[Span]) -> bool
-    ensures spans { IsTrue result ↔ (All IsSpan spans.now) }
-{
-    spans.iter().all(|span| is_span(*span))
-}
-
-fn is_span(span: Span) -> bool
-    ensures span { IsTrue result ↔ (IsSpan span) }
-{
-    span.low <= span.high && -LIMIT <= span.low && span.high <= LIMIT
 }
 
 fn is_way(ring: &Path) -> bool

@@ -1,7 +1,8 @@
 //! Laws of the near nodes: each is a function that does nothing, and its contract is the law. It looks at the two figures, so that
 //! they are known to be valid.
 
-ghost use Rattle.near_laws.specs.Near.{LawBeyondIsThere, LawFarShowsNoMore, LawFrameHolds, LawNearDecide, LawNearEdgesMeet};
+ghost use Rattle.box_laws.specs.Boxes.{LawFrameHolds, LawNearEdgesMeet};
+ghost use Rattle.near_laws.specs.Near.{LawBeyondIsThere, LawFarShowsNoMore, LawNearDecide};
 
 use point_set::{Rule, Valid};
 

@@ -27,7 +27,8 @@ use Rattle.cell_laws.proofs.Samples.Same.{sample_same}
 use Rattle.few_laws.proofs.Nodes.Crossings.{few_is_node}
 use Rattle.near_laws.proofs.Beyond.Shown.{beyond_is_there}
 use Rattle.near_laws.proofs.Decide.Near.{near_decide, shown_at_most}
-use Rattle.near_laws.specs.Near.{HoldsCommonPart, IsNearNode, beyond_cell, beyond_parts}
+use Rattle.box_laws.specs.Boxes.{HoldsCommonPart}
+use Rattle.near_laws.specs.Near.{IsNearNode, beyond_cell, beyond_parts}
 use Rattle.node_table.specs.declared.entry.Entry.{Entry}
 use Rattle.topo_pred.specs.declared.Answer.TheVariants.{Im, Truth}
 use Rattle.topo_pred.specs.declared.Progress.{Progress}

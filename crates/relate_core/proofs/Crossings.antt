@@ -20,8 +20,8 @@ use Rattle.point_set.specs.Shape.{has_item}
 use Rattle.point_set.specs.Validity.{IsAtPlace, IsOnEdge}
 use Rattle.figure_laws.proofs.Lists.Places.{some_same}
 use Rattle.node_table.specs.declared.entry.Entry.{Entry}
-use Rattle.near_laws.proofs.Boxes.Edges.{box_of, box_least, holds_near}
-use Rattle.near_laws.specs.Near.{IsNearBox}
+use Rattle.box_laws.proofs.Boxes.Edges.{box_of, box_least, holds_near}
+use Rattle.box_laws.specs.Boxes.{IsNearBox}
 use Rattle.seg_cross.specs.Meets.{IsMeet}
 use Rattle.seg_cross.specs.declared.answer.Meet.{Meet}
 use Rattle.seg_cross.specs.declared.answer.Meet.TheVariants.{Apart, At, Along}

@@ -13,7 +13,8 @@ use Rattle.point_set.specs.Samples.{IsSample}
 use Rattle.point_set.specs.Shape.{dimension_of}
 use Rattle.point_set.specs.Visible.{AreValid}
 use Rattle.cell_laws.proofs.Cells.Matrix.{decided_by_samples}
-use Rattle.near_laws.specs.Near.{HoldsCommonPart, IsCommonPart, IsNearNode, beyond_cell, frame}
+use Rattle.box_laws.specs.Boxes.{HoldsCommonPart, IsCommonPart, frame}
+use Rattle.near_laws.specs.Near.{IsNearNode, beyond_cell}
 use Rattle.topo_pred.specs.Values.{value_of, value_at, matrix_of}
 use Rattle.topo_pred.specs.declared.Answer.{Answer}
 use Rattle.topo_pred.specs.declared.Progress.{Progress}
@@ -24,8 +25,8 @@ use Rattle.relate_core.specs.Looks.{AreLooksFew, IsNearRun}
 use Rattle.relate_core.specs.Taking.{HasTakenIn}
 use Rattle.relate_core.proofs.Answered.{value_is, value_on_samples, matrix_is, answer_is_matrix}
 use Rattle.relate_core.proofs.LooksAreFew.{looks_are_few}
-use Rattle.near_laws.proofs.Boxes.Round.{near_window_decided}
-use Rattle.near_laws.proofs.Envelopes.Frames.{frames_hold_common_part}
+use Rattle.box_laws.proofs.Boxes.Round.{near_window_decided}
+use Rattle.box_laws.proofs.Envelopes.Frames.{frames_hold_common_part}
 use Rattle.near_laws.proofs.Far.Shows.{far_shows_no_more}
 use Rattle.relate_core.proofs.Taking.{taken_either}
 

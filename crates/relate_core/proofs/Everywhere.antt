@@ -19,7 +19,7 @@ use Rattle.point_set.specs.Visible.{AreValid}
 use Rattle.figure_laws.proofs.Lists.Items.{Each, each_both}
 use Rattle.figure_laws.proofs.Lists.Places.{all_at}
 use Rattle.node_laws.proofs.Nodes.Positions.{positions_of_both, at_some}
-use Rattle.near_laws.proofs.Boxes.Round.{in_is_near}
+use Rattle.box_laws.proofs.Boxes.Round.{in_is_near}
 use Rattle.near_laws.specs.Near.{IsNearNode}
 use Rattle.node_table.specs.declared.entry.Entry.{Entry}
 use Rattle.relate_core.specs.NodeSets.{HasTwoEnds}

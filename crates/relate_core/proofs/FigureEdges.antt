@@ -19,7 +19,7 @@ use Rattle.figure_laws.proofs.Edges.Limits.{IsOwnedProper, proper_figure}
 use Rattle.figure_laws.proofs.Lists.Items.{Each, each_both, place_left}
 use Rattle.figure_laws.proofs.Lists.Least.{by_place}
 use Rattle.figure_laws.proofs.Lists.Places.{some_same, all_at}
-use Rattle.near_laws.proofs.Boxes.Edges.{box_of, box_least}
+use Rattle.box_laws.proofs.Boxes.Edges.{box_of, box_least}
 use Rattle.relate_core.specs.NodeSets.{HasTwoEnds, AreEdgesNear}
 
 -- ---- an edge at a place

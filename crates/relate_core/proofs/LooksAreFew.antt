@@ -20,7 +20,8 @@ use Rattle.point_set.specs.Samples.{IsSample, IsSampleAt, IsMatrixOfSamples}
 use Rattle.point_set.specs.Visible.{AreValid}
 use Rattle.cell_laws.proofs.Samples.Same.{sample_same}
 use Rattle.near_laws.proofs.Decide.Near.{greatest_at_most}
-use Rattle.near_laws.specs.Near.{IsNearNode, IsNearWindow}
+use Rattle.box_laws.specs.Boxes.{IsNearWindow}
+use Rattle.near_laws.specs.Near.{IsNearNode}
 use Rattle.node_table.specs.declared.entry.Entry.{Entry}
 use Rattle.topo_pred.proofs.Laws.{itself, everywhere, everywhere-most}
 use Rattle.topo_pred.specs.Later.{IsAtLeast}

@@ -17,8 +17,8 @@ use Rattle.point_set.specs.declared.figure.Figure.{Figure}
 use Rattle.point_set.specs.Nodes.{segs_of}
 use Rattle.point_set.specs.Validity.{IsAtPlace}
 use Rattle.figure_laws.proofs.Lists.Places.{some_same}
-use Rattle.near_laws.proofs.Boxes.Round.{near_by_least, near_same}
-use Rattle.near_laws.specs.Near.{IsNearBox}
+use Rattle.box_laws.proofs.Boxes.Round.{near_by_least, near_same}
+use Rattle.box_laws.specs.Boxes.{IsNearBox}
 use Rattle.node_table.specs.Tables.{with_sections}
 use Rattle.node_table.specs.declared.entry.Entry.{Entry}
 use Rattle.relate_core.specs.NodeSets.{AddsNear, CrossesOne, IsAtPosition, IsAtFirst, IsAtEitherEnd, IsAtThe}

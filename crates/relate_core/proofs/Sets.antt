@@ -8,8 +8,8 @@ use Rattle.plane_exact.specs.declared.node.Node.{Node}
 use Rattle.plane_exact.specs.declared.window.Window.{Window}
 use Rattle.point_set.specs.Validity.{IsAtPlace}
 use Rattle.figure_laws.proofs.Lists.Places.{some_same}
-use Rattle.near_laws.specs.Near.{IsNearBox}
-use Rattle.near_laws.proofs.Boxes.Round.{near_same}
+use Rattle.box_laws.specs.Boxes.{IsNearBox}
+use Rattle.box_laws.proofs.Boxes.Round.{near_same}
 use Rattle.fan_order.specs.declared.section.Section.{Section}
 use Rattle.node_table.specs.Tables.{with_sections}
 use Rattle.node_table.specs.declared.entry.Entry.{Entry}

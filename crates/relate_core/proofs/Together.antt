@@ -21,8 +21,9 @@ use Rattle.figure_laws.proofs.Lists.Items.{Each, each_both, some_left, some_righ
 use Rattle.figure_laws.proofs.Lists.Least.{SomeItem, by_place}
 use Rattle.node_laws.proofs.Nodes.Edges.{edge_true}
 use Rattle.node_laws.proofs.Nodes.Positions.{HasEnds, ends_of_figure, positions_of_both, at_some}
-use Rattle.near_laws.proofs.Boxes.Edges.{near_edges_meet}
-use Rattle.near_laws.specs.Near.{IsNearBox, IsNearNode}
+use Rattle.box_laws.proofs.Boxes.Edges.{near_edges_meet}
+use Rattle.box_laws.specs.Boxes.{IsNearBox}
+use Rattle.near_laws.specs.Near.{IsNearNode}
 use Rattle.node_table.specs.declared.entry.Entry.{Entry}
 use Rattle.relate_core.specs.Tables.{IsListed, AreNodes}
 use Rattle.relate_core.specs.NodeSets.{AddsNear, IsOfSome, AreEdgesNear, CrossesSome, CrossesWithin}

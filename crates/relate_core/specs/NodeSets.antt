@@ -11,7 +11,7 @@ use Rattle.point_set.specs.Edges.{edges_of_figure, MeetsAtPlace}
 use Rattle.point_set.specs.Nodes.{segs_of, IsOnlyCommonPoint}
 use Rattle.point_set.specs.Shape.{has_item}
 use Rattle.point_set.specs.Validity.{IsAtPlace}
-use Rattle.near_laws.specs.Near.{IsNearBox}
+use Rattle.box_laws.specs.Boxes.{IsNearBox}
 use Rattle.node_table.specs.declared.entry.Entry.{Entry}
 use Rattle.relate_core.specs.Tables.{IsListed}
 

@@ -11,7 +11,7 @@ mod stabbing;
 
 pub use index::YIndex;
 pub use level::{Level, level_of};
-pub use rows::{Span, SpanList, SpanRow};
+pub use rows::{Span, SpanList, SpanRow, are_spans};
 pub use spans::Spans;
 pub use stabbing::stab;
 

@@ -1,4 +1,7 @@
-use plane_exact::ItemList;
+ghost use Rattle.std.specs.Prelude.{◌≡◌, ◌↔◌, All, IsTrue};
+ghost use Rattle.y_index.specs.Trees.{IsSpan};
+
+use plane_exact::{ItemList, LIMIT};
 
 /// An interval of heights, its ends included.
 #[derive(Clone, Copy, Debug, PartialEq, Eq)]
@@ -11,6 +14,19 @@ pub struct Span {
 
 /// Spans in order.
 pub type SpanList = ItemList<Span>;
+
+/// Whether no span's greatest height is below its least, and all are within the limit: what an index is built of.
+pub fn are_spans(spans: &[Span]) -> bool
+    ensures spans { IsTrue result ↔ (All IsSpan spans.now) }
+{
+    spans.iter().all(|span| is_span(*span))
+}
+
+fn is_span(span: Span) -> bool
+    ensures span { IsTrue result ↔ (IsSpan span) }
+{
+    span.low <= span.high && -LIMIT <= span.low && span.high <= LIMIT
+}
 
 /// A span with its item, and what stands below it in the tree.
 #[derive(Clone, Copy, Debug, PartialEq, Eq)]

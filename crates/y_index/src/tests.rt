@@ -1,24 +1,9 @@
 //! Spans beside lists of the items that were found by hand.
-ghost use Rattle.std.specs.Prelude.{IsTrue, ◌↔◌, ◌≤◌, All, length};
-ghost use Rattle.y_index.specs.Trees.{IsSpan};
-
-use super::{Span, SpanList, YIndex, stab};
+use super::{Span, SpanList, YIndex, are_spans, stab};
 use plane_exact::{Count, LIMIT, NoMemory, Node, PlaceList, Pt};
 use std::alloc::Global;
 use std::process::Abort;
 use std::test::Fail;
-
-fn is_span(span: Span) -> bool
-    ensures span { IsTrue result ↔ (IsSpan span) }
-{
-    span.low <= span.high && -LIMIT <= span.low && span.high <= LIMIT
-}
-
-fn are_spans(spans: &SpanList) -> bool
-    ensures spans { IsTrue result ↔ (All IsSpan spans.now) }
-{
-    spans.as_slice().iter().all(|span| is_span(*span))
-}
 
 fn index_of(rt: &impl Abort, alloc: Global, spans: &[(i64, i64)]) -> Result<YIndex, NoMemory> {
     let mut list = SpanList::new(alloc);
@@ -29,7 +14,7 @@ fn index_of(rt: &impl Abort, alloc: Global, spans: &[(i64, i64)]) -> Result<YInd
         })?;
     }
     assert!(rt; list.len() <= 1_048_576);
-    assert!(rt; are_spans(&list));
+    assert!(rt; are_spans(list.as_slice()));
     YIndex::build(alloc, &list)
 }
 

@@ -14,9 +14,9 @@ use Rattle.plane_laws.proofs.Points.Same.{same_sym}
 use Rattle.plane_laws.proofs.Segments.Lines.{three_on_line}
 use Rattle.plane_laws.proofs.Segments.On.{on_segment_of_same}
 use Rattle.side_laws.proofs.Edges.Places.{off_by_places, off_edge}
-use Rattle.node_laws.proofs.Nodes.Decided.{IsOnLineOf, on_line_or_not, cross_only, only_is_end}
+use Rattle.node_laws.proofs.Nodes.Decided.{EndsElsewhere, IsOnLineOf, on_line_or_not, cross_only, only_is_end}
 use Rattle.node_laws.proofs.Nodes.Positions.{positions_of_both}
-use Rattle.few_laws.proofs.Nodes.Decided.{EndsElsewhere, first_elsewhere, second_elsewhere}
+use Rattle.few_laws.proofs.Nodes.Decided.{first_elsewhere, second_elsewhere}
 
 -- ---- edges on one line
 -- two edges on the line of a third are on one line, where each of the three has two ends

@@ -18,6 +18,7 @@ use Rattle.point_set.specs.Relation.{IsInCell}
 use Rattle.point_set.specs.Samples.{IsSampleAt}
 use Rattle.point_set.specs.Visible.{AreValid}
 use Rattle.figure_laws.proofs.Edges.Lists.{none_append, none_joined}
+use Rattle.figure_laws.proofs.Valid.Pairs.{valid_turned}
 use Rattle.cell_laws.proofs.Directions.Exist.{run_at}
 use Rattle.cell_laws.proofs.Directions.Middles.{middle_in_sector, sector_free}
 use Rattle.cell_laws.proofs.Samples.Seen.{seen_in_sector, seen_on_edge}

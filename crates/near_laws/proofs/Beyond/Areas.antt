@@ -21,7 +21,7 @@ use Rattle.point_set.specs.Nodes.{positions_of_ways, rings_of_areas}
 use Rattle.point_set.specs.Visible.{AreValid}
 use Rattle.point_set.specs.declared.extent.Extent.{Extent}
 use Rattle.point_set.specs.Extents.{IsExtent}
-use Rattle.near_laws.specs.Near.{HoldsCommonPart, sticks_out}
+use Rattle.box_laws.specs.Boxes.{HoldsCommonPart, sticks_out}
 use Rattle.plane_laws.proofs.Segments.On.{Decides-is_on_segment}
 use Rattle.kind_laws.proofs.Cover.BesideRay.{not_uncovered}
 use Rattle.kind_laws.proofs.Hands.InSector.{moving}
@@ -35,7 +35,7 @@ use Rattle.near_laws.proofs.Beyond.Lines.{segment_out}
 use Rattle.near_laws.proofs.Beyond.Positions.{far_position}
 use Rattle.near_laws.proofs.Beyond.Rays.{IsAlongAreas, HasAreaDirections, area_directions}
 use Rattle.near_laws.proofs.Beyond.Ways.{end_way, leads_to_end}
-use Rattle.near_laws.proofs.Envelopes.Past.{uncovered_beyond}
+use Rattle.box_laws.proofs.Envelopes.Past.{uncovered_beyond}
 
 -- two figures, and a farthest position outside of their common part
 module _ (a b : Figure) (valid : AreValid a b) (rule : Rule) (x : Extent) (is : IsExtent a rule x) (w : Option Window)

@@ -12,14 +12,14 @@ use Rattle.plane_exact.specs.Places.{point_of}
 use Rattle.plane_exact.specs.declared.point.Pt.{Pt}
 use Rattle.plane_exact.specs.declared.window.Window.{Window}
 use Rattle.point_set.specs.Lines.{is_at, is_at_some}
-use Rattle.near_laws.specs.Near.{IsInBox}
+use Rattle.box_laws.specs.Boxes.{IsInBox}
 use Rattle.plane_laws.proofs.Near.Away.{away_shift, away_rise}
 use Rattle.kind_laws.proofs.Location.EdgeRays.{all_map}
 use Rattle.near_laws.proofs.Beyond.Positions.{HasFarPosition}
-use Rattle.near_laws.proofs.Boxes.Sides.{none_inside, in_window, Side, distance, edge_of, in_not_past, in_or_past}
-use Rattle.near_laws.proofs.Boxes.Sides.Side.{ToLeft, ToRight, ToBottom, ToTop}
-use Rattle.near_laws.proofs.Envelopes.Past.{IsBehind}
-use Rattle.near_laws.proofs.Envelopes.Ways.{at_itself}
+use Rattle.box_laws.proofs.Boxes.Sides.{none_inside, in_window, Side, distance, edge_of, in_not_past, in_or_past}
+use Rattle.box_laws.proofs.Boxes.Sides.Side.{ToLeft, ToRight, ToBottom, ToTop}
+use Rattle.box_laws.proofs.Envelopes.Past.{IsBehind}
+use Rattle.box_laws.proofs.Envelopes.Ways.{at_itself}
 
 -- ---- the place of a position on a side's axis
 -- across for left and right, up for bottom and top

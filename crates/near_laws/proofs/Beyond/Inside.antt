@@ -25,7 +25,7 @@ use Rattle.point_set.specs.Sides.{PointsTo}
 use Rattle.point_set.specs.Validity.{IsAtPlace, IsOnEdge, IsValid, too_few_points}
 use Rattle.point_set.specs.Nodes.{positions_of_ways, rings_of_areas}
 use Rattle.point_set.specs.declared.edge.Hand.TheVariants as hand
-use Rattle.near_laws.specs.Near.{IsInBox}
+use Rattle.box_laws.specs.Boxes.{IsInBox}
 use Rattle.plane_laws.proofs.Near.Away.{away_point, away_point_is, away_near, far_for}
 use Rattle.plane_laws.proofs.Points.Same.{same_sym}
 use Rattle.plane_laws.proofs.Segments.Mixes.{on_from_strictly_between}
@@ -38,8 +38,8 @@ use Rattle.kind_laws.proofs.Hands.InSector.{moving, left_forward, right_backward
 use Rattle.stay_laws.proofs.Even.Germs.{HasAreaHand, edge_hand, edge_at}
 use Rattle.near_laws.proofs.Beyond.Kept.{position_on, some_append}
 use Rattle.near_laws.proofs.Beyond.Ways.{HasEndWay, end_way}
-use Rattle.near_laws.proofs.Boxes.Sides.{HasRoomOff, room_off}
-use Rattle.near_laws.proofs.Envelopes.Ways.{positions_append}
+use Rattle.box_laws.proofs.Boxes.Sides.{HasRoomOff, room_off}
+use Rattle.box_laws.proofs.Envelopes.Ways.{positions_append}
 
 -- ---- to a hand of an edge
 -- from a point strictly between the ends: to the left of the way to the second end, or of the way to the first

@@ -22,7 +22,7 @@ use Rattle.point_set.specs.Visible.{AreValid}
 use Rattle.point_set.specs.declared.extent.Extent.{Extent}
 use Rattle.point_set.specs.Extents.{IsExtent, moving_positions, still_positions, boundary_ends}
 use Rattle.point_set.specs.declared.dim_loc.DimLoc.TheVariants as kind
-use Rattle.near_laws.specs.Near.{IsInBox, HoldsCommonPart, sticks_out}
+use Rattle.box_laws.specs.Boxes.{IsInBox, HoldsCommonPart, sticks_out}
 use Rattle.plane_laws.proofs.Near.Away.{away_point, away_point_is, away_near, far_for}
 use Rattle.figure_laws.proofs.Points.Kinds.{one_kind, one_part}
 use Rattle.stay_laws.proofs.Stays.Germs.{kind_settles}
@@ -30,8 +30,8 @@ use Rattle.near_laws.proofs.Beyond.Positions.{far_position}
 use Rattle.near_laws.proofs.Beyond.Kept.{some_append, moving_on, still_at, ends_on, kept_bound}
 use Rattle.near_laws.proofs.Beyond.Ways.{line_way}
 use Rattle.cell_laws.proofs.Germs.Along.{germ_holds_segment}
-use Rattle.near_laws.proofs.Boxes.Sides.{room_off}
-use Rattle.near_laws.proofs.Envelopes.Hold.{stays_in, covered_in, line_in, bound_at_end}
+use Rattle.box_laws.proofs.Boxes.Sides.{room_off}
+use Rattle.box_laws.proofs.Envelopes.Hold.{stays_in, covered_in, line_in, bound_at_end}
 use Rattle.near_laws.proofs.Far.Bare.{bare_point}
 use Rattle.near_laws.proofs.Far.Shows.{no_bound}
 

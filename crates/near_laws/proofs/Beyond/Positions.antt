@@ -12,13 +12,13 @@ use Rattle.plane_exact.specs.declared.point.Pt.{Pt}
 use Rattle.plane_exact.specs.declared.window.Window.{Window}
 use Rattle.point_set.specs.Lines.{is_at, is_at_some}
 use Rattle.point_set.specs.Extents.{IsEnvelope}
-use Rattle.near_laws.specs.Near.{is_within, sticks_out, IsInBox}
+use Rattle.box_laws.specs.Boxes.{is_within, sticks_out, IsInBox}
 use Rattle.plane_laws.proofs.Points.Same.{same_refl, same_sym, Decides-is_same_point}
 use Rattle.plane_laws.proofs.Segments.Mixes.{start_on_segment, segment_same}
 use Rattle.plane_laws.proofs.Segments.On.{Decides-int_le}
 use Rattle.plane_exact.proofs.Laws.{in_window-mix}
-use Rattle.near_laws.proofs.Boxes.Sides.{none_inside, in_window, in_box_decided}
-use Rattle.near_laws.proofs.Envelopes.Ways.{at_itself}
+use Rattle.box_laws.proofs.Boxes.Sides.{none_inside, in_window, in_box_decided}
+use Rattle.box_laws.proofs.Envelopes.Ways.{at_itself}
 
 -- ---- a position outside of a box
 -- some position of a list is outside of a box

@@ -25,7 +25,8 @@ use Rattle.point_set.specs.Extents.{IsExtent}
 use Rattle.point_set.specs.Germ.{IsPairGerm}
 use Rattle.point_set.specs.Sectors.{sectors_of}
 use Rattle.point_set.specs.declared.dim_loc.DimLoc.TheVariants as kind
-use Rattle.near_laws.specs.Near.{IsInBox, HoldsCommonPart, sticks_out, interior_by, boundary_by, beyond, beyond_parts, LawBeyondIsThere}
+use Rattle.box_laws.specs.Boxes.{IsInBox, HoldsCommonPart, sticks_out}
+use Rattle.near_laws.specs.Near.{interior_by, boundary_by, beyond, beyond_parts, LawBeyondIsThere}
 use Rattle.kind_laws.proofs.Cover.BesideRay.{interior_is_open}
 use Rattle.kind_laws.proofs.Cover.Inside.{interior_of_one}
 use Rattle.kind_laws.proofs.Location.Decided.{HasSectorWay, sector_way}

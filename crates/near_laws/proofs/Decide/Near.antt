@@ -17,13 +17,14 @@ use Rattle.point_set.specs.Relation.{IsInCell}
 use Rattle.point_set.specs.Samples.{IsSample, IsGreatest}
 use Rattle.point_set.specs.Visible.{AreValid}
 use Rattle.cell_laws.specs.Decided.{AreDecidedBySamples}
-use Rattle.near_laws.specs.Near.{IsNearWindow, IsNearNode, LawNearDecide, beyond_cell, beyond_parts}
+use Rattle.box_laws.specs.Boxes.{IsNearWindow}
+use Rattle.near_laws.specs.Near.{IsNearNode, LawNearDecide, beyond_cell, beyond_parts}
 use Rattle.figure_laws.proofs.Sets.Dimensions.{segment_of_triangle, point_of_segment}
 use Rattle.cell_laws.proofs.Cells.Matrix.{decided_by_samples, same_rank}
 use Rattle.few_laws.proofs.Nodes.Crossings.{few_is_node}
 use Rattle.few_laws.proofs.Seen.Few.{law_few_holds}
 use Rattle.near_laws.proofs.Beyond.Shown.{beyond_is_there}
-use Rattle.near_laws.proofs.Boxes.Round.{near_window_decided}
+use Rattle.box_laws.proofs.Boxes.Round.{near_window_decided}
 use Rattle.near_laws.proofs.Far.Shows.{far_shows_no_more}
 
 -- ---- ranks

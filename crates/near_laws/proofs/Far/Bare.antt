@@ -7,13 +7,13 @@ use Rattle.plane_laws.specs.Directions.{Direction}
 use Rattle.plane_exact.specs.declared.point.Pt.{Pt}
 use Rattle.plane_exact.specs.declared.window.Window.{Window}
 use Rattle.point_set.specs.Lines.{is_at_some}
-use Rattle.near_laws.specs.Near.{IsInBox}
+use Rattle.box_laws.specs.Boxes.{IsInBox}
 use Rattle.plane_laws.proofs.Near.Away.{away_point, away_point_is, away_near, far_for}
 use Rattle.plane_laws.proofs.Near.Near.{IsNear}
 use Rattle.germ_laws.proofs.Room.Germs.{away_cone}
 use Rattle.germ_laws.proofs.Room.Lonely.{IsLonely, lonely}
 use Rattle.germ_laws.proofs.Room.Starry.{not_here}
-use Rattle.near_laws.proofs.Boxes.Sides.{HasRoomOff, room_off}
+use Rattle.box_laws.proofs.Boxes.Sides.{HasRoomOff, room_off}
 
 -- how far in such a point is
 pub record HasBarePoint (w : Option Window) (positions : List Pt) (v : Point) (d : Direction) (from : ℕ) : Type 0 where

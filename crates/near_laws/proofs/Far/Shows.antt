@@ -29,7 +29,8 @@ use Rattle.point_set.specs.Samples.{IsSampleAt, IsSeenInSector}
 use Rattle.point_set.specs.declared.extent.Extent.{Extent}
 use Rattle.point_set.specs.Extents.{IsExtent}
 use Rattle.point_set.specs.declared.dim_loc.DimLoc.TheVariants as kind
-use Rattle.near_laws.specs.Near.{IsInBox, HoldsCommonPart, sticks_out, interior_by, boundary_by, beyond, beyond_parts, beyond_cell}
+use Rattle.box_laws.specs.Boxes.{IsInBox, HoldsCommonPart, sticks_out}
+use Rattle.near_laws.specs.Near.{interior_by, boundary_by, beyond, beyond_parts, beyond_cell}
 use Rattle.near_laws.specs.Near.{LawFarShowsNoMore}
 use Rattle.plane_laws.proofs.Near.Away.{away_point, away_point_is}
 use Rattle.plane_laws.proofs.Segments.Mixes.{start_on_segment}
@@ -38,8 +39,8 @@ use Rattle.figure_laws.proofs.Points.Kinds.{one_part, interior_is_covered}
 use Rattle.stay_laws.proofs.Even.Even.{still_none}
 use Rattle.stay_laws.proofs.Stays.OffEdges.{interior_off_edges, no_position}
 use Rattle.cell_laws.proofs.Free.Ways.{free_in_sector}
-use Rattle.near_laws.proofs.Boxes.Round.{far_is_out}
-use Rattle.near_laws.proofs.Envelopes.Hold.{shows_out, covered_in, line_in, point_in, end_in, bound_at_end}
+use Rattle.box_laws.proofs.Boxes.Round.{far_is_out}
+use Rattle.box_laws.proofs.Envelopes.Hold.{shows_out, covered_in, line_in, point_in, end_in, bound_at_end}
 use Rattle.near_laws.proofs.Far.Bare.{bare_point}
 
 -- ---- what four envelopes tell

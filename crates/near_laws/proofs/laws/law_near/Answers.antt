@@ -1,9 +1,9 @@
 use Rattle.figure_laws.proofs.Valid.Pairs.{are_valid}
 use Rattle.near_laws.proofs.laws.law_near.Goals as goal
 use Rattle.near_laws.proofs.Beyond.Shown.{beyond_is_there}
-use Rattle.near_laws.proofs.Boxes.Edges.{near_edges_meet}
+use Rattle.box_laws.proofs.Boxes.Edges.{near_edges_meet}
 use Rattle.near_laws.proofs.Decide.Near.{near_decide}
-use Rattle.near_laws.proofs.Envelopes.Frames.{frame_holds}
+use Rattle.box_laws.proofs.Envelopes.Frames.{frame_holds}
 use Rattle.near_laws.proofs.Far.Shows.{far_shows_no_more}
 
 pub returns : goal.returns

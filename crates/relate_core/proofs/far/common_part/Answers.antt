@@ -3,7 +3,7 @@ use Rattle.plane_laws.specs.Plane.{Point}
 use Rattle.plane_exact.specs.Windows.{IsInWindow}
 use Rattle.plane_exact.specs.declared.window.Window.{Window}
 use Rattle.figure_laws.proofs.Lists.Places.{some_same}
-use Rattle.near_laws.specs.Near.{IsInBox}
+use Rattle.box_laws.specs.Boxes.{IsInBox}
 use Rattle.relate_core.proofs.far.common_part.Goals as goal
 
 -- a point that is in a box, where there is one, is in the box that there is

@@ -1,7 +1,7 @@
 use Rattle.std.proofs.Common.{[], sym, ◌∙◌}
 use Rattle.plane_laws.proofs.Points.Same.{same_sym}
 use Rattle.plane_exact.specs.NodePoints.{point_at}
-use Rattle.near_laws.proofs.Boxes.Round.{near_by_least, near_same}
+use Rattle.box_laws.proofs.Boxes.Round.{near_by_least, near_same}
 use Rattle.relate_core.proofs.Sets.{adds_none, adds_node}
 use Rattle.relate_core.proofs.nodes.add_near.Goals as goal
 

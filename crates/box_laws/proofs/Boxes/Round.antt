@@ -10,11 +10,11 @@ use Rattle.plane_laws.specs.Plane.{Point, IsSamePoint}
 use Rattle.plane_exact.specs.Nodes.{IsRange}
 use Rattle.plane_exact.specs.Windows.{IsInWindow, IsLeastWindow, HasCommonPoint}
 use Rattle.plane_exact.specs.declared.window.Window.{Window}
-use Rattle.near_laws.specs.Near.{IsInBox, IsNearBox, IsNearWindow}
+use Rattle.box_laws.specs.Boxes.{IsInBox, IsNearBox, IsNearWindow}
 use Rattle.plane_laws.proofs.Points.Same.{same_refl, same_sym, same_trans}
 use Rattle.plane_exact.proofs.Laws.{common_point, least_of_point, low_at_most_high}
 use Rattle.figure_laws.proofs.Edges.Windows.{one_least_window}
-use Rattle.near_laws.proofs.Boxes.Sides.{none_inside, in_window, within_holds}
+use Rattle.box_laws.proofs.Boxes.Sides.{none_inside, in_window, within_holds}
 
 -- the whole numbers next to a fraction
 record HasRange (x w : ℤ) : Type 0 where

@@ -8,7 +8,7 @@ use Rattle.whole_algebra.proofs.Signs.{by_order, scale_≤ℤ_right, ≤ℤ_tran
 use Rattle.plane_laws.specs.Plane.{Point}
 use Rattle.plane_exact.specs.Windows.{IsInWindow, IsWithin}
 use Rattle.plane_exact.specs.declared.window.Window.{Window}
-use Rattle.near_laws.specs.Near.{IsInBox}
+use Rattle.box_laws.specs.Boxes.{IsInBox}
 use Rattle.plane_laws.proofs.Near.Near.{IsNear, reach_of, positive_near}
 use Rattle.plane_laws.proofs.Near.Parted.{Affine, at_point}
 use Rattle.figure_laws.proofs.Lists.Places.{some_same}

@@ -14,11 +14,11 @@ use Rattle.point_set.specs.declared.rule.Rule.{Rule}
 use Rattle.point_set.specs.Extents.{IsExtent}
 use Rattle.point_set.specs.Location.{IsKind, IsLocation}
 use Rattle.point_set.specs.Shape.{IsWellShaped}
-use Rattle.near_laws.specs.Near.{IsInBox, IsCommonPart, HoldsFigure, HoldsCommonPart, LawFrameHolds, join, frame}
+use Rattle.box_laws.specs.Boxes.{IsInBox, IsCommonPart, HoldsFigure, HoldsCommonPart, LawFrameHolds, join, frame}
 use Rattle.figure_laws.proofs.Points.Kinds.{interior_is_covered}
 use Rattle.kind_laws.proofs.Location.Decided.{kind_is_decided}
-use Rattle.near_laws.proofs.Boxes.Sides.{none_inside, in_window, within_holds}
-use Rattle.near_laws.proofs.Envelopes.Hold.{covered_in, line_in, point_in}
+use Rattle.box_laws.proofs.Boxes.Sides.{none_inside, in_window, within_holds}
+use Rattle.box_laws.proofs.Envelopes.Hold.{covered_in, line_in, point_in}
 
 -- ---- boxes that are joined
 -- each of two boxes is within the one that holds both

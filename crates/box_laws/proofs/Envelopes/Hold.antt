@@ -19,15 +19,15 @@ use Rattle.point_set.specs.Shape.{IsWellShaped}
 use Rattle.point_set.specs.Nodes.{positions_of_ways, rings_of_areas}
 use Rattle.point_set.specs.Extents.{IsEnvelope, IsExtent, keep_if, moving_positions, still_positions, boundary_ends}
 use Rattle.point_set.specs.declared.extent.Extent.{Extent}
-use Rattle.near_laws.specs.Near.{is_within, sticks_out, IsInBox}
+use Rattle.box_laws.specs.Boxes.{is_within, sticks_out, IsInBox}
 use Rattle.plane_laws.proofs.Points.Same.{Decides-is_same_point}
 use Rattle.plane_laws.proofs.Segments.On.{Decides-int_le}
 use Rattle.figure_laws.proofs.Lists.Places.{same_position}
 use Rattle.figure_laws.proofs.Points.Same.{count_at-same}
 use Rattle.kind_laws.proofs.Location.EdgeRays.{all_split}
-use Rattle.near_laws.proofs.Boxes.Sides.{none_inside, in_window, Side, distance, within_holds}
-use Rattle.near_laws.proofs.Envelopes.Past.{IsBehind, IsBeyondAll, in_envelope_or_past, uncovered_beyond, off_all_behind, none_at}
-use Rattle.near_laws.proofs.Envelopes.Ways.{both_of_way}
+use Rattle.box_laws.proofs.Boxes.Sides.{none_inside, in_window, Side, distance, within_holds}
+use Rattle.box_laws.proofs.Envelopes.Past.{IsBehind, IsBeyondAll, in_envelope_or_past, uncovered_beyond, off_all_behind, none_at}
+use Rattle.box_laws.proofs.Envelopes.Ways.{both_of_way}
 
 -- ---- a box that doesn't stick out
 -- the test of being within

@@ -9,12 +9,12 @@ use Rattle.plane_exact.specs.declared.window.Window.{Window}
 use Rattle.point_set.specs.declared.figure.Figure.{Figure}
 use Rattle.point_set.specs.Edges.{MeetsWindow}
 use Rattle.point_set.specs.Validity.{IsOnEdge}
-use Rattle.near_laws.specs.Near.{IsNearBox, LawNearEdgesMeet}
+use Rattle.box_laws.specs.Boxes.{IsNearBox, LawNearEdgesMeet}
 use Rattle.plane_laws.proofs.Points.Same.{same_refl}
 use Rattle.plane_laws.proofs.Segments.Mixes.{segment_same}
 use Rattle.plane_exact.proofs.Laws.{least_of_ends}
 use Rattle.ring_laws.proofs.Germs.Edges.{on_true}
-use Rattle.near_laws.proofs.Boxes.Sides.{within_holds}
+use Rattle.box_laws.proofs.Boxes.Sides.{within_holds}
 
 -- the box of an edge
 abbrev pub box_of : Seg → Window

@@ -24,7 +24,7 @@ use Rattle.point_set.specs.Rings.{is_on_edge, is_on_edges, is_low, crosses, cros
 use Rattle.point_set.specs.Shape.{IsAreaShaped}
 use Rattle.point_set.specs.Nodes.{positions_of_ways, rings_of_areas}
 use Rattle.point_set.specs.Extents.{IsEnvelope}
-use Rattle.near_laws.specs.Near.{IsInBox}
+use Rattle.box_laws.specs.Boxes.{IsInBox}
 use Rattle.plane_laws.proofs.Near.Near.{size_of, size_is}
 use Rattle.plane_laws.proofs.Near.Parted.{affine_on}
 use Rattle.plane_laws.proofs.Points.Same.{same_refl, same_sym, Decides-is_same_point}
@@ -35,9 +35,9 @@ use Rattle.ring_laws.proofs.Germs.Areas.{location_stays}
 use Rattle.side_laws.proofs.Edges.Places.{off_edge}
 use Rattle.side_laws.proofs.Edges.Strip.{positive_between}
 use Rattle.kind_laws.proofs.Location.EdgeRays.{all_split, all_map}
-use Rattle.near_laws.proofs.Boxes.Sides.{Side, past, distance, past_is, edge_of, in_not_past, in_or_past}
-use Rattle.near_laws.proofs.Boxes.Sides.Side.{ToLeft, ToRight, ToBottom, ToTop}
-use Rattle.near_laws.proofs.Envelopes.Ways.{BothEnds, both_of_ways, positions_append, all_by_points}
+use Rattle.box_laws.proofs.Boxes.Sides.{Side, past, distance, past_is, edge_of, in_not_past, in_or_past}
+use Rattle.box_laws.proofs.Boxes.Sides.Side.{ToLeft, ToRight, ToBottom, ToTop}
+use Rattle.box_laws.proofs.Envelopes.Ways.{BothEnds, both_of_ways, positions_append, all_by_points}
 
 -- a position isn't beyond a line
 abbrev pub IsBehind : Side → ℤ → Pt → Type 0
