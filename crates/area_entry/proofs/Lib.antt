@@ -3,7 +3,6 @@ mod Bends
 mod Entries
 pub mod Laws
 mod Loops
-mod Overlaps
 mod PlacedRows
 mod RowPlaces
 mod Searches

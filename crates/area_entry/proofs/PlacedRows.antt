@@ -45,6 +45,11 @@ module _ (w : Window) (rows : List Edge) (places : List ℕ) (are : ArePlacesIn 
         };
       })
 
+-- each place near some points is that of a row
+pub near_within : (Points : Point → Type 0) (rows : List Edge) (places : List ℕ) → AreNear Points rows places
+    → All (λ place. place < length rows) places
+near_within Points rows places near = places_within near.window rows places near.places_in
+
 -- a row that has a point in common with an edge is near the edge
 pub near_row : (e : Seg) (rows : List Edge) (places : List ℕ) → AreNear (IsOnEdge e) rows places → (place : ℕ) (row : Edge)
     → IsAtPlace rows place row → (p : Point) → IsOnEdge e p → IsOnEdge row.seg p → Contains places place

@@ -96,6 +96,7 @@ fn some_edge_runs_into(
 }
 
 /// Whether one edge runs on into the part, from a point of the area's edges.
+#[tactic(auto, using(crate::proofs::PlacedRows::near_within))]
 fn edge_runs_into(alloc: Global, edge: &Edge, rows: &NearRows, part: Loc) -> Result<bool, NoMemory>
     requires edge_sound { IsRowSound edge.now }
     requires sound { All IsRowSound rows.now }
@@ -170,6 +171,7 @@ fn runs_from_some_row(
 }
 
 /// Whether an edge of the ring runs on into the part, from its point in common with one of the area's edges.
+#[tactic(auto, using(crate::proofs::PlacedRows::near_within))]
 fn some_runs_on_from(
     alloc: Global,
     ring: &NearRows,

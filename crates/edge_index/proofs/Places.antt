@@ -39,16 +39,9 @@ place_meets w segs rows leaves place meets =
     let leaf = leaves.each some.place some.row some.is_leaf some.is_row in
     let there = subst (λ (item : ℕ). slice_get segs item ≡ Some leaf.seg) some.is_item leaf.seg_is in
     let same : meets.seg ≡ leaf.seg = cc in
-    record {
-      place = some.place;
-      row = some.row;
-      is_leaf = some.is_leaf;
-      is_row = some.is_row;
-      is_item = some.is_item;
-      common =
-          window_meets w meets.seg meets.meets.box some.row.window meets.meets.least
-          (subst (λ (seg : Seg). IsWindowOf seg some.row.window) (sym same) leaf.least) meets.meets.common;
-    }
+    let here : IsWindowOf meets.seg some.row.window = subst (λ (seg : Seg). IsWindowOf seg some.row.window) (sym same) leaf.least in
+    let common = window_meets w meets.seg meets.meets.box some.row.window meets.meets.least here meets.meets.common in
+    record { place = some.place; row = some.row; is_leaf = some.is_leaf; is_row = some.is_row; is_item = some.is_item; common = common }
 
 -- the items of a walk are the places
 pub places_from_items :

@@ -26,6 +26,13 @@ pub record Pending (v : View) (place : ℕ) (items : List ℕ) (looks : ℕ) : T
   pub items_are : items ≡ below ++ later
   pub looks_are : looks ≡ below_looks + later_looks
 
+-- a subtree and what comes after it
+pending :
+    {v : View} {place below_looks later_looks : ℕ} {below later : List ℕ} → Visit v place below below_looks → Rest v place later later_looks
+    → Pending v place (below ++ later) (below_looks + later_looks)
+pending visit rest =
+    record { below = _; below_looks = _; visit = visit; later = _; later_looks = _; rest = rest; items_are = refl; looks_are = refl }
+
 -- what is left, by the row that comes next
 abbrev pub IsLeft : View → Option ℕ → List ℕ → ℕ → Type 0
 IsLeft v None items looks = (items ≡ []) × (looks ≡ 0)
@@ -39,16 +46,8 @@ after_rest v root finished = (refl, refl)
 after_rest v root (beside place parent items others looks more e visit rest) = absurd (omega (arith, e))
 after_rest v root (above place parent items looks e rest) = absurd (omega (arith, e))
 after_rest v (left place parent e) finished = absurd (omega (arith, e))
-after_rest v (left place parent e) (beside place' parent' items others looks more e' visit rest) = record {
-  below = items;
-  below_looks = looks;
-  visit = visit;
-  later = others;
-  later_looks = more;
-  rest = above (place + 1) parent' others more (omega arith) rest;
-  items_are = refl;
-  looks_are = refl;
-}
+after_rest v (left place parent e) (beside place' parent' items others looks more e' visit rest) =
+    pending visit (above (place + 1) parent' others more (omega arith) rest)
 after_rest v (left place parent e) (above place' parent' items looks e' rest) = absurd (omega arith)
 after_rest v (right place parent next e follows) finished = absurd (omega (arith, e))
 after_rest v (right place parent next e follows) (beside place' parent' items others looks more e' visit rest) = absurd (omega arith)
@@ -66,29 +65,19 @@ pub record IsUnderway (v : View) (next : Option ℕ) (out : List ℕ) (begin use
   pub found : all ≡ out ++ items
   pub steps : begin + total ≡ used + looks
 
+-- a walk under way, by what is left of it
+underway :
+    (v : View) (next : Option ℕ) (out : List ℕ) (begin used : ℕ) (all items : List ℕ) (total looks : ℕ) → Visit v 0 all total
+    → IsLeft v next items looks → all ≡ out ++ items → begin + total ≡ used + looks → IsUnderway v next out begin used
+underway v next out begin used all items total looks whole rest found steps =
+    record { all = all; total = total; whole = whole; items = items; looks = looks; rest = rest; found = found; steps = steps }
+
 -- the beginning
 pub underway_begin : (v : View) (begin : ℕ) → IsUnderway v (Some 0) [] begin begin
 underway_begin v begin =
     let root = visited v (2 * v.inner + 1) 0 (omega arith) (omega arith) in
-    record {
-      all = root.items;
-      total = root.looks;
-      whole = root.visit;
-      items = root.items;
-      looks = root.looks;
-      rest = record {
-        below = root.items;
-        below_looks = root.looks;
-        visit = root.visit;
-        later = [];
-        later_looks = 0;
-        rest = finished;
-        items_are = sym (append-nil root.items);
-        looks_are = omega arith;
-      };
-      found = refl;
-      steps = refl;
-    }
+    underway v (Some 0) [] begin begin root.items (root.items ++ []) root.looks (root.looks + 0) root.visit (pending root.visit finished)
+    (sym (append-nil root.items)) (omega arith)
 
 -- a row that doesn't meet is passed, with its subtree
 out_of : (v : View) {place looks : ℕ} {items : List ℕ} → Visit v place items looks → v.meets place ≡ false → (items ≡ []) × (looks ≡ 1)
@@ -103,18 +92,10 @@ one_look :
     → IsUnderway v next (out ++ here) begin (used + 1)
 one_look v place next here out begin used follows walk one =
     let p = walk.rest in
-    record {
-      all = walk.all;
-      total = walk.total;
-      whole = walk.whole;
-      items = p.later;
-      looks = p.later_looks;
-      rest = after_rest v follows p.rest;
-      found =
-          walk.found ∙ ap (λ (xs : List ℕ). out ++ xs) (p.items_are ∙ ap (λ (xs : List ℕ). xs ++ p.later) one.0)
-          ∙ sym (append_assoc out here p.later);
-      steps = omega (arith, walk.steps, p.looks_are, one.1);
-    }
+    let found = p.items_are ∙ ap (λ (xs : List ℕ). xs ++ p.later) one.0 in
+    underway v next (out ++ here) begin (used + 1) walk.all p.later walk.total p.later_looks walk.whole (after_rest v follows p.rest)
+    (walk.found ∙ ap (λ (xs : List ℕ). out ++ xs) found ∙ sym (append_assoc out here p.later))
+    (omega (arith, walk.steps, p.looks_are, one.1))
 
 pub underway_out :
     (v : View) (place : ℕ) (next : Option ℕ) (out : List ℕ) (begin used : ℕ) → v.meets place ≡ false → IsAfter place next
@@ -146,20 +127,13 @@ opened_of :
     → (more : ℕ) × Pending v (2 * place + 1) (items ++ later) more × (looks + later_looks ≡ 1 + more)
 opened_of v (apart place within out) opened e rest = cc
 opened_of v (leaf place within past in') opened e rest = absurd (omega arith)
-opened_of v {later = later} {later_looks = later_looks} (inner place items others looks more opened in' l r) opened' e rest = (
-  looks + (more + later_looks),
-  record {
-    below = items;
-    below_looks = looks;
-    visit = l;
-    later = others ++ later;
-    later_looks = more + later_looks;
-    rest = beside (2 * place + 1) place others later more later_looks refl (subst (λ (p : ℕ). Visit v p others more) (omega arith) r) rest;
-    items_are = append_assoc items others later;
-    looks_are = refl;
-  },
-  omega arith,
-)
+opened_of v {later = later} {later_looks = later_looks} (inner place items others looks more opened in' l r) opened' e rest =
+    let right = subst (λ (p : ℕ). Visit v p others more) (omega arith) r in
+    let after = pending l (beside (2 * place + 1) place others later more later_looks refl right rest) in (
+      looks + (more + later_looks),
+      subst (λ (xs : List ℕ). Pending v (2 * place + 1) xs (looks + (more + later_looks))) (sym (append_assoc items others later)) after,
+      omega arith,
+    )
 
 pub underway_inner :
     (v : View) (place : ℕ) (out : List ℕ) (begin used : ℕ) → place < v.inner → v.meets place ≡ true
@@ -167,16 +141,8 @@ pub underway_inner :
 underway_inner v place out begin used opened e walk =
     let p = walk.rest in
     let below = opened_of v p.visit opened e p.rest in
-    record {
-      all = walk.all;
-      total = walk.total;
-      whole = walk.whole;
-      items = p.below ++ p.later;
-      looks = below.0;
-      rest = below.1;
-      found = walk.found ∙ ap (λ (xs : List ℕ). out ++ xs) p.items_are;
-      steps = omega (arith, walk.steps, p.looks_are, below.2);
-    }
+    underway v (Some (2 * place + 1)) out begin (used + 1) walk.all (p.below ++ p.later) walk.total below.0 walk.whole below.1
+    (walk.found ∙ ap (λ (xs : List ℕ). out ++ xs) p.items_are) (omega (arith, walk.steps, p.looks_are, below.2))
 
 -- the end
 pub underway_end : (v : View) (out : List ℕ) (begin used : ℕ) → IsUnderway v None out begin used → (total : ℕ) × Visit v 0 out total

@@ -8,6 +8,7 @@ mod Passes
 mod Places
 mod Quotients
 mod Reaches
+mod SamePlaces
 mod Searches
 mod Turns
 mod Walks

@@ -54,6 +54,22 @@ module _ (which : Which) (sections : List Section) (alike : AreHandsAlike which 
       let b' : IsAreaAlong which k r t = subst (λ (d : Dir). IsAreaAlong which k d t) (sym same) b in
       alike.alike s t s_there t_there a.which_is b.which_is (a.area_is ∙ sym b.area_is) (ways_along a.along b'.along)
 
+  -- the same section, on a shorter or a longer front
+  last_moved : (k m n : ℕ) (l : EntersLast which k sections way m) → l.place < n
+      → ((q : ℕ) (r : Dir) (t : Section) → l.place < q → q < n → IsAtPlace way q r → Contains sections t → IsAreaAlong which k r t → ⊥)
+      → EntersLast which k sections way n
+  last_moved k m n l below none = record {
+    place = l.place;
+    below = below;
+    ray = l.ray;
+    ray_is = l.ray_is;
+    s = l.s;
+    there = l.there;
+    along = l.along;
+    left = l.left;
+    none = none;
+  }
+
   -- one ray more
   last_more : (k m : ℕ) (ray : Dir) → IsAtPlace way m ray → (mid b : Bool) → IsStep which k sections ray mid b
       → (IsTrue mid ↔ EntersLast which k sections way m) → (IsTrue b ↔ EntersLast which k sections way (m + 1))
@@ -98,17 +114,9 @@ module _ (which : Which) (sections : List Section) (alike : AreHandsAlike which 
           (λ t there which_is area_is along. none t there (record { which_is = which_is; area_is = area_is; along = along }))
 
       longer : ((s : Section) → Contains sections s → IsAreaAlong which k ray s → ⊥) → EntersLast which k sections way m → Here
-      longer none l = record {
-        place = l.place;
-        below = let low = l.below in omega (arith, low);
-        ray = l.ray;
-        ray_is = l.ray_is;
-        s = l.s;
-        there = l.there;
-        along = l.along;
-        left = l.left;
-        none = λ q r t low high r_is t_there t_along. past q r t low high r_is t_there t_along (cases_eq q m);
-      }
+      longer none l =
+          last_moved k m (m + 1) l (let low = l.below in omega (arith, low))
+          (λ q r t low high r_is t_there t_along. past q r t low high r_is t_there t_along (cases_eq q m))
         where
           past : (q : ℕ) (r : Dir) (t : Section) → l.place < q → q < m + 1 → IsAtPlace way q r → Contains sections t
               → IsAreaAlong which k r t → (q ≡ m) ⊎ (q ≡ m → ⊥) → ⊥
@@ -123,17 +131,9 @@ module _ (which : Which) (sections : List Section) (alike : AreHandsAlike which 
       shorter none l (inl same) =
           let ray_same : l.ray ≡ ray = some_same (sym l.ray_is ∙ ap (λ (p : ℕ). slice_get way p) same ∙ ray_is) in
           absurd (none l.s l.there (subst (λ (d : Dir). IsAreaAlong which k d l.s) ray_same l.along))
-      shorter none l (inr apart) = record {
-        place = l.place;
-        below = let low = l.below in omega (arith, low, apart);
-        ray = l.ray;
-        ray_is = l.ray_is;
-        s = l.s;
-        there = l.there;
-        along = l.along;
-        left = l.left;
-        none = λ q r t low high r_is t_there t_along. l.none q r t low (omega (arith, high)) r_is t_there t_along;
-      }
+      shorter none l (inr apart) =
+          last_moved k (m + 1) m l (let low = l.below in omega (arith, low, apart))
+          (λ q r t low high r_is t_there t_along. l.none q r t low (omega (arith, high)) r_is t_there t_along)
 
       by_search : HasSome (IsAreaAlong which k ray) sections ⊎ ((s : Section) → Contains sections s → IsAreaAlong which k ray s → ⊥)
           → IsTrue b ↔ Here

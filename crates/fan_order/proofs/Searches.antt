@@ -39,14 +39,7 @@ last_after {X} P decide xs i x is holds rest = by_next (slice_get xs (i + 1)) re
     by_item : (y : X) → slice_get xs (i + 1) ≡ Some y → P y ⊎ (P y → ⊥) → LastSo P xs i
     by_item y e (inl so) =
         let h = rest y e so in
-        record {
-          place = h.place;
-          from = let f = h.from in omega (arith, f);
-          item = h.item;
-          is = h.is;
-          holds = h.holds;
-          next = h.next;
-        }
+        record { place = h.place; from = let f = h.from in omega (arith, f); item = h.item; is = h.is; holds = h.holds; next = h.next }
     by_item y e (inr not) = last_here P xs i x is holds (λ z z_is so. not (subst P (some_same (sym z_is ∙ e)) so))
 
     by_next : (o : Option X) → slice_get xs (i + 1) ≡ o → LastSo P xs i

@@ -1,33 +1,21 @@
 -- Two edges have a common segment exactly where they meet along one.
-use Rattle.std.proofs.Common.{◌≡◌, ◌⊎◌, inl, inr, sym, ◌∙◌, subst, Less, Equal}
-use Rattle.plane_laws.specs.Plane.{Point, IsSamePoint, IsOnSegment}
-use Rattle.plane_laws.proofs.Points.Order.{compare_points_same}
+use Rattle.std.proofs.Common.{◌≡◌, ◌⊎◌, inl, inr, subst}
+use Rattle.plane_laws.specs.Plane.{Point, IsOnSegment}
 use Rattle.plane_laws.proofs.Points.Same.{same_sym, same_trans}
 use Rattle.plane_laws.proofs.Segments.Mixes.{start_on_segment, end_on_segment}
 use Rattle.plane_exact.specs.Places.{point_of}
 use Rattle.plane_exact.specs.declared.point.Pt.{Pt}
 use Rattle.plane_exact.specs.declared.point.Seg.{Seg}
 use Rattle.plane_exact.specs.declared.node.Node.{Node}
-use Rattle.seg_cross.specs.Meets.{IsMeet, IsCommon, IsOverlap}
+use Rattle.seg_cross.specs.Meets.{IsMeet, IsCommon}
 use Rattle.seg_cross.specs.declared.answer.Meet.{Meet}
 use Rattle.seg_cross.specs.declared.answer.Meet.TheVariants.{Apart, At, Along}
+use Rattle.seg_cross.proofs.Laws.{overlap_ends_apart, overlap_held}
 use Rattle.point_set.specs.Validity.{ShareSegment}
-
-less_not_equal : ¬ (Less ≡ Equal)
-less_not_equal e = cc
-
--- the ends of an overlap are two points
-pub overlap_apart : (e f : Seg) (p q : Pt) → IsOverlap e f p q → ¬ IsSamePoint (point_of p) (point_of q)
-overlap_apart e f p q over same = less_not_equal (sym over.ordered ∙ compare_points_same (point_of p) (point_of q) same)
 
 -- an overlap is a common segment
 pub along_shares : (e f : Seg) (p q : Pt) → IsMeet e f (Along p q) → ShareSegment e f
-along_shares e f p q over = record {
-  a = point_of p;
-  b = point_of q;
-  apart = overlap_apart e f p q over;
-  held = λ r on. let c = over.common r on in (c.first, c.second);
-}
+along_shares e f p q over = record { a = point_of p; b = point_of q; apart = overlap_ends_apart e f p q over; held = overlap_held e f p q over }
 
 -- the points of a common segment are common
 shared_common : (e f : Seg) (s : ShareSegment e f) (r : Point) → IsOnSegment s.a s.b r → IsCommon e f r

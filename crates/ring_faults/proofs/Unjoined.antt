@@ -16,7 +16,7 @@ use Rattle.side_laws.proofs.Edges.Germ.{between_not_start, between_not_end}
 use Rattle.side_laws.proofs.Rings.Joint.{near_start}
 use Rattle.ring_faults.specs.Joints.{HasUnjoinedPoint}
 use Rattle.meeting_laws.proofs.Ways.OneLine.{same_or_not}
-use Rattle.ring_faults.proofs.Overlaps.{overlap_apart}
+use Rattle.seg_cross.proofs.Laws.{overlap_ends_apart}
 
 -- What a meeting says of the joint: the edges have a common point, and not the joint alone.
 abbrev pub IsUnjoined : List Seg → ℕ → ℕ → Seg → Seg → Meet → Type 0
@@ -83,7 +83,7 @@ along_at edges i j e f p q over m between = by (joint_or_not edges i j e f (poin
 
     third : IsJoint edges i j e f (point_of p) → IsJoint edges i j e f (point_of q) → ¬ IsJoint edges i j e f m
     third x y z =
-        two_of_three (point_of f.a) (point_of e.a) (point_of p) (point_of q) m (overlap_apart e f p q over) (between_not_start between)
+        two_of_three (point_of f.a) (point_of e.a) (point_of p) (point_of q) m (overlap_ends_apart e f p q over) (between_not_start between)
         (between_not_end between)
         (joint_start edges i j e f (point_of p) x) (joint_start edges i j e f (point_of q) y) (joint_start edges i j e f m z)
 
@@ -96,7 +96,7 @@ along_at edges i j e f p q over m between = by (joint_or_not edges i j e f (poin
 
 along_unjoined : (edges : List Seg) (i j : ℕ) (e f : Seg) (p q : Pt) → IsOverlap e f p q → HasUnjoinedPoint edges i j e f
 along_unjoined edges i j e f p q over =
-    let apart = overlap_apart e f p q over in along_at edges i j e f p q over _ (near_start p q apart 1 (omega arith))
+    let apart = overlap_ends_apart e f p q over in along_at edges i j e f p q over _ (near_start p q apart 1 (omega arith))
 
 -- the answer of `meet` decides it; the places and the ring itself do not matter
 pub unjoined :

@@ -1,3 +1,4 @@
 pub mod Means
 pub mod Overlaps
 pub mod Meetings
+pub mod Laws

@@ -1,12 +1,6 @@
 use Rattle.std.proofs.lemmas.Result.{IfOk-weaker}
 use Rattle.area_entry.proofs.Entries.{by_places}
-use Rattle.area_entry.proofs.PlacedRows.{places_within}
 use Rattle.area_entry.proofs.entering.edge_runs_into.Goals as goal
-
-pub runs_on_from_some-requires-clause-places : goal.runs_on_from_some-requires-clause-places
-runs_on_from_some-requires-clause-places c =
-    let near = c.in_ok-places.ensures.near in
-    places_within near.window c.args.rows.now c.in_ok-places.places near.places_in
 
 pub returns : goal.returns
 returns c = record {

@@ -1,7 +1,7 @@
 use Rattle.std.proofs.lemmas.Result.{IfOk-weaker}
 use Rattle.plane_exact.specs.NodePoints.{point_at}
+use Rattle.seg_cross.proofs.Laws.{overlap_ends_apart, overlap_held}
 use Rattle.area_entry.proofs.Entries.{at_meeting, on_row}
-use Rattle.area_entry.proofs.Overlaps.{along_shares}
 use Rattle.area_entry.proofs.RowPlaces.{row_there}
 use Rattle.area_entry.proofs.entering.runs_on_from.Goals as goal
 
@@ -29,8 +29,12 @@ returns-in-Apart c = record {
 }
 
 pub returns-in-Along : goal.returns-in-Along
-returns-in-Along c = record {
-  runs = λ area clean are_rows unshared place is.
-      absurd (unshared place c.args.row.now.seg (row_there area c.args.rows.now are_rows place c.args.row.now is)
-      (along_shares c.args.edge.now.seg c.args.row.now.seg c.in-Along.field-0 c.in-Along.field-1 c.in-Along.ensures.exact));
-}
+returns-in-Along c =
+    let e = c.args.edge.now.seg in
+    let f = c.args.row.now.seg in
+    let over = c.in-Along.ensures.exact in
+    record {
+      runs = λ area clean are_rows unshared place is.
+          absurd (unshared place f (row_there area c.args.rows.now are_rows place c.args.row.now is)
+          (record { a = _; b = _; apart = overlap_ends_apart e f _ _ over; held = overlap_held e f _ _ over }));
+    }

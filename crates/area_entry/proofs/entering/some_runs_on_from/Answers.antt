@@ -1,12 +1,6 @@
 use Rattle.std.proofs.lemmas.Result.{IfOk-weaker}
 use Rattle.area_entry.proofs.Entries.{by_ring_places}
-use Rattle.area_entry.proofs.PlacedRows.{places_within}
 use Rattle.area_entry.proofs.entering.some_runs_on_from.Goals as goal
-
-pub some_near_runs_on_from-requires-clause-places : goal.some_near_runs_on_from-requires-clause-places
-some_near_runs_on_from-requires-clause-places c =
-    let near = c.in_ok-places.ensures.near in
-    places_within near.window c.args.ring.now c.in_ok-places.places near.places_in
 
 pub returns : goal.returns
 returns c = record {

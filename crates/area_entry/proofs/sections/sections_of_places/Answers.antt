@@ -7,7 +7,7 @@ use Rattle.fan_order.specs.declared.section.Section.{Section}
 use Rattle.fan_order.specs.Rays.{IsShort}
 use Rattle.area_entry.specs.RowSections.{IsRowSound}
 use Rattle.area_entry.proofs.Loops.{item_of_all, item_read}
-use Rattle.area_entry.proofs.PlacedRows.{AreSectionsSoFar, places_within, none_so_far, place_more, all_places}
+use Rattle.area_entry.proofs.PlacedRows.{AreSectionsSoFar, near_within, none_so_far, place_more, all_places}
 use Rattle.area_entry.proofs.sections.sections_of_places.Goals as goal
 
 pub loop-place-init : goal.loop-place-init
@@ -22,20 +22,18 @@ loop-place-init c =
 
 pub at-requires : goal.at-requires
 at-requires c =
-    let near = c.requires.near in
     record {
       within =
           item_of_all c.args.places.now c.as_slice-place-items.ensures.items c.loop-place.place-index _ c.loop-place-test.true
-          (λ place. place < length c.args.rows.now) (places_within near.window c.args.rows.now c.args.places.now near.places_in);
+          (λ place. place < length c.args.rows.now) (near_within _ c.args.rows.now c.args.places.now c.requires.near);
     }
 
 pub add_row-requires : goal.add_row-requires
 add_row-requires c =
-    let near = c.requires.near in
     let rows = c.args.rows.now in
     let below =
     item_of_all c.args.places.now c.as_slice-place-items.ensures.items c.loop-place.place-index _ c.loop-place-test.true
-    (λ place. place < length rows) (places_within near.window rows c.args.places.now near.places_in) in
+    (λ place. place < length rows) (near_within _ rows c.args.places.now c.requires.near) in
     let there = read_at rows rows _ c.at.result.now refl below c.at.ensures.item in
     record { sound = all_at IsRowSound rows _ c.at.result.now c.requires.sound there }
 
@@ -49,7 +47,7 @@ loop-place-preserved c =
     let k = c.loop-place.place-index in
     let there =
     item_of_all places items k _ c.loop-place-test.true (λ place. place < length rows)
-    (places_within near.window rows places near.places_in) in
+    (near_within _ rows places near) in
     let long = ap length items in (
       place_more v rows places near k c.loop-place.sections c.add_row.new.out c.loop-place.invariant.0
           (omega (arith, long, c.loop-place-test.true)) _ (item_read places items k _ c.loop-place-test.true 0) c.at.result.now
