@@ -7,7 +7,7 @@ use Rattle.std.specs.Bool.{then_some}
 use Rattle.im_matrix.specs.declared.Loc.{Loc}
 use Rattle.im_matrix.specs.declared.Loc.TheVariants.{Interior, Boundary, Exterior}
 use Rattle.im_matrix.specs.declared.Dim.{Dim}
-use Rattle.im_matrix.specs.declared.Dim.TheVariants.{Empty, Zero, One, Two}
+use Rattle.im_matrix.specs.declared.Dim.TheVariants.{Zero, One, Two}
 use Rattle.im_matrix.specs.declared.Matrix.{Matrix}
 use Rattle.im_matrix.specs.declared.names.Name.TheVariants.{Intersects, Disjoint, Contains, Within, Covers, CoveredBy, Touches, Crosses, Overlaps, Equals, ContainsProperly}
 use Rattle.im_matrix.specs.Cells.{cell, dimension_at, rank, greater}

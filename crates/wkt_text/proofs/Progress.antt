@@ -7,7 +7,6 @@ use Rattle.wkt_text.specs.declared.state.Role.{Role}
 use Rattle.wkt_text.specs.declared.state.Role.TheVariants.{Deep}
 use Rattle.wkt_text.specs.declared.state.Site.{Site}
 use Rattle.wkt_text.specs.declared.word.Tag.{Tag}
-use Rattle.wkt_text.specs.declared.word.Tag.TheVariants.{Plain, Z, M, Zm}
 use Rattle.wkt_text.specs.declared.state.Step.{Step}
 use Rattle.wkt_text.specs.declared.state.Step.TheVariants.{Two, Three, Done}
 use Rattle.wkt_text.specs.declared.state.Control.{Control}
