@@ -1,7 +1,9 @@
 -- From the faults of each part of the line to the first fault of all.
-use Rattle.std.proofs.Common.{◌≡◌, ◌≢◌, ◌∙◌, ◌<◌, ◌+◌, inl, inr, refl, ap, sym, subst, arith, ℕ, List, [], ◌∷◌, Option, Some, None, codes, slice_index_or}
+use Rattle.std.proofs.Common.{◌≡◌, ◌≢◌, ◌∙◌, ◌<◌, ◌+◌, inl, inr, refl, ap, sym, subst, arith, ℕ, List, [], ◌∷◌, Option, Some, None, Result, IfErr, codes, slice_index_or}
 use Rattle.std.proofs.lemmas.Bool.{cases_lt}
 use Rattle.std.proofs.lemmas.Option.{none-some, same_Some}
+use Rattle.std.proofs.lemmas.Result.{err_from_is_err_and}
+use Rattle.std.specs.Result.{IsErrAnd}
 use Rattle.clap.specs.Matches.{first_value}
 use Rattle.clap.specs.Walk.{Row, rows_of}
 use Rattle.clap.specs.declared.parser.matches.Found.{Found}
@@ -10,12 +12,15 @@ use Rattle.topo_pred.specs.declared.Query.{Query}
 use Rattle.topo_pred.specs.declared.Query.TheVariants as query
 use Rattle.im_matrix.specs.Patterns.{HasFaultAt, pattern_text}
 use Rattle.geosop_line.specs.Arguments.{Value, value_of}
-use Rattle.geosop_line.specs.CommandLine.{Fails, IsFirst, rank}
+use Rattle.geosop_line.specs.CommandLine.{Fails, IsFaultOf, IsFirst, rank}
 use Rattle.geosop_line.specs.Figures.{AreBadSources, AreFiguresOf, ComeFromSample, ComeFromSources, IsBadSample}
 use Rattle.geosop_line.specs.Numbers.{IsNumber}
 use Rattle.geosop_line.specs.Operations.{Asks, IsBadArgument, IsBadOperation, IsBadPattern, operation_word}
 use Rattle.geosop_line.specs.Settings.{IsRule, IsThreads}
 use Rattle.geosop_line.specs.Steps.{AreFigures, AreMade, IsFiguresFault, IsQueryFault, IsRuleFault, IsScaleFault, IsThreadsFault}
+use Rattle.geosop_line.specs.declared.config.Config.{Config}
+use Rattle.geosop_line.specs.declared.config.LineFault.{LineFault}
+use Rattle.geosop_line.specs.declared.config.LineFault.TheVariants.{Usage}
 use Rattle.geosop_line.specs.declared.config.Source.{Source}
 use Rattle.geosop_line.specs.declared.config.UsageFault.{UsageFault}
 use Rattle.geosop_line.specs.declared.config.UsageFault.TheVariants.{Line, Sample, Sources, Operation, Argument, BadMatch, RuleName, Threads, Scale}
@@ -137,28 +142,28 @@ module _ (found : Found) where
   passes_line = passes_more 0 (λ other lt. absurd (omega arith)) (λ place some. some refl)
 
   -- the figures are there
-  pub passes_figures : (sample a b : Value) (figures : Figures) → sample ≡ first_value found (codes "sample")
+  pub passes_figures : (figures : Figures) {sample a b : Value} → sample ≡ first_value found (codes "sample")
       → a ≡ first_value found (codes "a") → b ≡ first_value found (codes "b") → AreFigures sample a b figures → PassesBelow 3
-  passes_figures sample a b figures s_is a_is b_is from =
+  passes_figures figures s_is a_is b_is from =
       let pass = figures_pass _ _ _ figures (rw (value_is found _ s_is, value_is found _ a_is, value_is found _ b_is) at from) in
       passes_more 2 (passes_more 1 passes_line (λ place. pass.0)) (λ place. pass.1)
 
   -- the query is there
-  pub passes_query : PassesBelow 3 → (op arg : Value) (q : Query) → op ≡ first_value found (codes "op")
+  pub passes_query : PassesBelow 3 → (q : Query) {op arg : Value} → op ≡ first_value found (codes "op")
       → arg ≡ first_value found (codes "arg") → Asks op arg q → PassesBelow 6
-  passes_query three op arg q op_is arg_is asks =
+  passes_query three q op_is arg_is asks =
       let pass = query_passes _ _ q (rw (value_is found _ op_is, value_is found _ arg_is) at asks) in
       passes_more 5 (passes_more 4 (passes_more 3 three (λ place. pass.0)) (λ place. pass.1)) pass.2
 
   -- the rule is there
-  pub passes_rule : PassesBelow 6 → (value : Value) (rule : Rule) → value ≡ first_value found (codes "rule") → IsRule value rule
+  pub passes_rule : PassesBelow 6 → (rule : Rule) {value : Value} → value ≡ first_value found (codes "rule") → IsRule value rule
       → PassesBelow 7
-  passes_rule six value rule is has = passes_more 6 six (λ place bad. bad rule (rw (value_is found _ is) at has))
+  passes_rule six rule is has = passes_more 6 six (λ place bad. bad rule (rw (value_is found _ is) at has))
 
   -- the threads are there
-  pub passes_threads : PassesBelow 7 → (value : Value) (threads : ℕ) → value ≡ first_value found (codes "threads") → IsThreads value threads
+  pub passes_threads : PassesBelow 7 → (threads : ℕ) {value : Value} → value ≡ first_value found (codes "threads") → IsThreads value threads
       → PassesBelow 8
-  passes_threads seven value threads is has = passes_more 7 seven (λ place bad. bad threads (rw (value_is found _ is) at has))
+  passes_threads seven threads is has = passes_more 7 seven (λ place bad. bad threads (rw (value_is found _ is) at has))
 
   -- a fault of the figures is the first
   figures_first_at : (fault : UsageFault)
@@ -172,9 +177,9 @@ module _ (found : Found) where
   figures_first_at other fails = absurd fails
 
   -- the same of values that are those of the matches
-  pub figures_first : (sample a b : Value) (fault : UsageFault) → sample ≡ first_value found (codes "sample")
+  pub figures_first : {sample a b : Value} {fault : UsageFault} → sample ≡ first_value found (codes "sample")
       → a ≡ first_value found (codes "a") → b ≡ first_value found (codes "b") → IsFiguresFault sample a b fault → IsFirst [] rows fault
-  figures_first sample a b fault s_is a_is b_is fails =
+  figures_first {fault = fault} s_is a_is b_is fails =
       figures_first_at fault (rw (value_is found _ s_is, value_is found _ a_is, value_is found _ b_is) at fails)
 
   -- a fault of the query is the first where the figures are there
@@ -193,25 +198,30 @@ module _ (found : Found) where
   query_first_at three other fails = absurd fails
 
   -- the same of values that are those of the matches
-  pub query_first : PassesBelow 3 → (op arg : Value) (fault : UsageFault) → op ≡ first_value found (codes "op")
+  pub query_first : PassesBelow 3 → {op arg : Value} {fault : UsageFault} → op ≡ first_value found (codes "op")
       → arg ≡ first_value found (codes "arg") → IsQueryFault op arg fault → IsFirst [] rows fault
-  query_first three op arg fault op_is arg_is fails =
+  query_first three {fault = fault} op_is arg_is fails =
       query_first_at three fault (rw (value_is found _ op_is, value_is found _ arg_is) at fails)
 
   -- a fault of the rule is the first where figures and query are there
-  pub rule_first : PassesBelow 6 → (value : Value) (fault : UsageFault) → value ≡ first_value found (codes "rule")
+  pub rule_first : PassesBelow 6 → {value : Value} {fault : UsageFault} → value ≡ first_value found (codes "rule")
       → IsRuleFault value fault → IsFirst [] rows fault
-  rule_first six value fault is fails = rw fails.0 (record { fails = rw (value_is found _ is) at fails.1; first = six })
+  rule_first six is fails = rw fails.0 (record { fails = rw (value_is found _ is) at fails.1; first = six })
 
   -- a fault of the threads is the first where all before it is there
-  pub threads_first : PassesBelow 7 → (value : Value) (fault : UsageFault) → value ≡ first_value found (codes "threads")
+  pub threads_first : PassesBelow 7 → {value : Value} {fault : UsageFault} → value ≡ first_value found (codes "threads")
       → IsThreadsFault value fault → IsFirst [] rows fault
-  threads_first seven value fault is fails = rw fails.0 (record { fails = rw (value_is found _ is) at fails.1; first = seven })
+  threads_first seven is fails = rw fails.0 (record { fails = rw (value_is found _ is) at fails.1; first = seven })
 
   -- a fault of the scale is the first where all before it is there
-  pub scale_first : PassesBelow 8 → (value : Value) (fault : UsageFault) → value ≡ first_value found (codes "scale")
+  pub scale_first : PassesBelow 8 → {value : Value} {fault : UsageFault} → value ≡ first_value found (codes "scale")
       → IsScaleFault value fault → IsFirst [] rows fault
-  scale_first eight value fault is fails = rw fails.0 (record { fails = rw (value_is found _ is) at fails.1; first = eight })
+  scale_first eight is fails = rw fails.0 (record { fails = rw (value_is found _ is) at fails.1; first = eight })
+
+  -- a first fault that is given on is the answer
+  pub given_on : (r : Result Config LineFault) {fault : UsageFault} → IsErrAnd r (λ e. e ≡ Usage fault) → IsFirst [] rows fault
+      → IfErr r (IsFaultOf [] rows)
+  given_on r given first = let p = err_from_is_err_and r given in rw (p.1, p.2) first
 
 -- figures whose sources are made are those of the configuration
 pub figures_made : (sample a b : Value) (figures : Figures) (x y : Source) (n : Option ℕ) → AreFigures sample a b figures

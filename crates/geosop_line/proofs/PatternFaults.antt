@@ -1,21 +1,15 @@
 -- Where a text is no pattern.
-use Rattle.std.proofs.Common.{◌≡◌, ◌∙◌, ◌<◌, inl, inr, refl, sym, arith, true, true≢false, zero, suc, ℕ, List, [], ◌∷◌, Some, length, map}
+use Rattle.std.proofs.Common.{◌≡◌, ◌∙◌, ◌<◌, inl, inr, sym, arith, true, true≢false, zero, suc, ℕ, List, [], ◌∷◌, Some, length, map}
 use Rattle.std.specs.Prelude.{slice_get}
 use Rattle.std.proofs.lemmas.Bool.{cases_lt}
 use Rattle.im_matrix.specs.declared.patterns.Mark.{Mark}
-use Rattle.im_matrix.specs.declared.patterns.Mark.TheVariants.{Present, Absent, Any, Points, Lines, Areas}
 use Rattle.im_matrix.specs.declared.patterns.Pattern.{Pattern}
 use Rattle.im_matrix.specs.Cells.{all_cells}
 use Rattle.im_matrix.specs.Patterns.{HasFaultAt, is_right, mark_at, mark_character, pattern_text}
 
 -- the character of a mark is right
 mark_is_right : (m : Mark) → is_right (Some (mark_character m)) ≡ true
-mark_is_right Present = refl
-mark_is_right Absent = refl
-mark_is_right Any = refl
-mark_is_right Points = refl
-mark_is_right Lines = refl
-mark_is_right Areas = refl
+mark_is_right m = grind arith
 
 -- the characters of marks are right
 marks_are_right : (marks : List Mark) (i : ℕ) → i < length marks → is_right (slice_get (map mark_character marks) i) ≡ true

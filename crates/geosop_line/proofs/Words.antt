@@ -1,16 +1,18 @@
 -- Different operations, rules and patterns have different words.
-use Rattle.std.proofs.Common.{◌≡◌, ◌∙◌, refl, ap, sym, ℕ, List, cond, ◌==◌, bytes_eq, codes, slice_index_or}
+use Rattle.std.proofs.Common.{◌≡◌, ◌∙◌, refl, ap, sym, arith, ℕ, List, cond, bytes_eq, codes, slice_index_or}
 use Rattle.point_set.specs.declared.rule.Rule.{Rule}
-use Rattle.point_set.specs.declared.rule.Rule.TheVariants.{Mod2, Endpoint, Multivalent, Monovalent}
 use Rattle.im_matrix.specs.declared.names.Name.TheVariants.{Intersects, Disjoint, Contains, Within, Covers, CoveredBy, Touches, Crosses, Overlaps, Equals, ContainsProperly}
 use Rattle.im_matrix.specs.declared.patterns.Mark.{Mark}
-use Rattle.im_matrix.specs.declared.patterns.Mark.TheVariants.{Present, Absent, Any, Points, Lines, Areas}
 use Rattle.im_matrix.specs.declared.patterns.Pattern.{Pattern}
 use Rattle.im_matrix.specs.Patterns.{mark_character, pattern_text}
 use Rattle.geosop_line.specs.Operations.{operation_word}
 use Rattle.geosop_line.specs.Settings.{rule_word}
 use Rattle.geosop_line.specs.declared.operation.Operation.{Operation}
 use Rattle.geosop_line.specs.declared.operation.Operation.TheVariants.{Relate, RelatePattern, Named}
+
+-- what comes back from its word is known by it
+known_by : {A W : Type 0} (word : A → W) (back : W → A) → ((x : A) → back (word x) ≡ x) → (x y : A) → word x ≡ word y → x ≡ y
+known_by word back comes x y same = sym (comes x) ∙ ap back same ∙ comes y
 
 -- the operation of a word that is one's
 abbrev operation_back : List ℕ → Operation
@@ -28,61 +30,17 @@ operation_back w =
     (cond (bytes_eq w (codes "overlaps")) (Named Overlaps)
     (cond (bytes_eq w (codes "equals")) (Named Equals) (Named ContainsProperly))))))))))))
 
--- each operation comes back from its word
-operation_back_is : (o : Operation) → operation_back (operation_word o) ≡ o
-operation_back_is Relate = refl
-operation_back_is RelatePattern = refl
-operation_back_is (Named Intersects) = refl
-operation_back_is (Named Disjoint) = refl
-operation_back_is (Named Contains) = refl
-operation_back_is (Named Within) = refl
-operation_back_is (Named Covers) = refl
-operation_back_is (Named CoveredBy) = refl
-operation_back_is (Named Touches) = refl
-operation_back_is (Named Crosses) = refl
-operation_back_is (Named Overlaps) = refl
-operation_back_is (Named Equals) = refl
-operation_back_is (Named ContainsProperly) = refl
-
 -- two operations of one word are one
 pub same_operation : (o p : Operation) → operation_word o ≡ operation_word p → o ≡ p
-same_operation o p same = sym (operation_back_is o) ∙ ap operation_back same ∙ operation_back_is p
-
--- the rule of a word that is one's
-abbrev rule_back : List ℕ → Rule
-rule_back w =
-    cond (bytes_eq w (codes "mod2")) Mod2
-    (cond (bytes_eq w (codes "endpoint")) Endpoint
-    (cond (bytes_eq w (codes "multivalent")) Multivalent Monovalent))
-
--- each rule comes back from its word
-rule_back_is : (r : Rule) → rule_back (rule_word r) ≡ r
-rule_back_is Mod2 = refl
-rule_back_is Endpoint = refl
-rule_back_is Multivalent = refl
-rule_back_is Monovalent = refl
+same_operation = known_by operation_word operation_back (λ o. grind arith)
 
 -- two rules of one word are one
 pub same_rule : (r s : Rule) → rule_word r ≡ rule_word s → r ≡ s
-same_rule r s same = sym (rule_back_is r) ∙ ap rule_back same ∙ rule_back_is s
-
--- the mark of a character that is one's
-abbrev mark_back : ℕ → Mark
-mark_back c =
-    cond (c == 84) Present (cond (c == 70) Absent (cond (c == 42) Any (cond (c == 48) Points (cond (c == 49) Lines Areas))))
-
--- each mark comes back from its character
-mark_back_is : (m : Mark) → mark_back (mark_character m) ≡ m
-mark_back_is Present = refl
-mark_back_is Absent = refl
-mark_back_is Any = refl
-mark_back_is Points = refl
-mark_back_is Lines = refl
-mark_back_is Areas = refl
+same_rule r s same = grind arith
 
 -- two marks of one character are one
 same_mark : (m n : Mark) → mark_character m ≡ mark_character n → m ≡ n
-same_mark m n same = sym (mark_back_is m) ∙ ap mark_back same ∙ mark_back_is n
+same_mark m n same = grind arith
 
 -- two patterns of one text are one
 pub same_pattern : (p q : Pattern) → pattern_text p ≡ pattern_text q → p ≡ q

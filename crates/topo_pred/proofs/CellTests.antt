@@ -1,5 +1,5 @@
 -- The rules of the names, as tests of single cells.
-use Rattle.std.proofs.Common.{◌≡◌, ◌≤◌, ℕ, Bool, true, false, refl, arith}
+use Rattle.std.proofs.Common.{◌≡◌, ◌≤◌, ℕ, Bool, true, false, arith}
 use Rattle.std.proofs.lemmas.Bool.Decides.{nat_tests}
 use Rattle.std.specs.Prelude.{◌&&◌, ◌||◌, not, nat_lt}
 
@@ -29,11 +29,6 @@ one_and_two a e f = grind arith
 pub none_of_four :
     (a b c d : Bool) → (not a && (not b && (not c && (not d && true)))) || false ≡ true && not (a || b || c || d)
 none_of_four a b c d = grind arith
-
--- Intersects: one of four cells
-pub one_of_four :
-    (a b c d : Bool) → not ((not a && (not b && (not c && (not d && true)))) || false) ≡ a || b || c || d
-one_of_four a b c d = grind arith
 
 -- Touches: not the first of four cells, and one of the others
 pub not_first :
@@ -72,17 +67,13 @@ or-later a b c d f g h = grind arith
 pub and-later : (a b c d : Bool) → (a ≡ true → c ≡ true) → (b ≡ true → d ≡ true) → a && b ≡ true → c && d ≡ true
 and-later a b c d f g h = grind arith
 
--- one of two tests refutes one of two others
-pub or-refutes : (a b c d : Bool) → (a ≡ true → c ≡ false) → (b ≡ true → d ≡ false) → a || b ≡ true → c && d ≡ false
-or-refutes a b c d f g h = grind arith
+-- both of two tests are worth both of two others, where each hands its value on
+pub and-alike : (v a b c d : Bool) → (a ≡ v → c ≡ v) → (b ≡ v → d ≡ v) → a && b ≡ v → c && d ≡ v
+and-alike v a b c d f g h = grind arith
 
--- two tests are false, and so two others are true
-pub or-false-passes : (a b c d : Bool) → (a ≡ false → c ≡ true) → (b ≡ false → d ≡ true) → a || b ≡ false → c && d ≡ true
-or-false-passes a b c d f g h = grind arith
-
--- one of two tests is false, and so one of two others
-pub and-false-fails : (a b c d : Bool) → (a ≡ false → c ≡ false) → (b ≡ false → d ≡ false) → a && b ≡ false → c && d ≡ false
-and-false-fails a b c d f g h = grind arith
+-- one of two tests is worth the contrary of both of two others, where each is that of the other
+pub or-against : (v a b c d : Bool) → (a ≡ v → c ≡ not v) → (b ≡ v → d ≡ not v) → a || b ≡ v → c && d ≡ not v
+or-against v a b c d f g h = grind arith
 
 -- the second of two tests is true, and is to be false
 pub and_not_false : (a b : Bool) → b ≡ true → a && not b ≡ false

@@ -1,7 +1,7 @@
 -- What is known of a pattern.
-use Rattle.std.proofs.Common.{◌≡◌, ◌≤◌, ◌∙◌, Bool, true, false, Some, None, List, [], ◌∷◌, map, refl, ap, arith}
+use Rattle.std.proofs.Common.{◌≡◌, ◌≤◌, ◌∙◌, Bool, true, false, Some, None, List, [], ◌∷◌, ap, arith}
 use Rattle.std.proofs.lemmas.Bool.Decides.{nat_tests}
-use Rattle.std.specs.Prelude.{if◌then◌else◌, nat_lt}
+use Rattle.std.specs.Prelude.{if◌then◌else◌, not, nat_lt}
 use Rattle.std.specs.List.{list_any, list_all}
 use Rattle.im_matrix.specs.declared.Dim.{Dim}
 use Rattle.im_matrix.specs.declared.Dim.TheVariants.{Two}
@@ -10,12 +10,12 @@ use Rattle.im_matrix.specs.declared.Matrix.{Matrix}
 use Rattle.im_matrix.specs.declared.patterns.Mark.{Mark}
 use Rattle.im_matrix.specs.declared.patterns.Pattern.{Pattern}
 use Rattle.im_matrix.specs.Cells.{rank, greater, dimension_at, all_cells}
-use Rattle.im_matrix.specs.Patterns.{accepts, all_accept, mark_character, range_of, mark_at, pattern_text, text_matches}
+use Rattle.im_matrix.specs.Patterns.{accepts, mark_character, range_of, mark_at, pattern_text, text_matches}
 use Rattle.im_matrix.proofs.Laws.{greater-least, matrix_by, dimension_at-matrix_by}
 use Rattle.topo_pred.specs.Later.{IsAtLeast, IsKnown}
 use Rattle.topo_pred.specs.Settled.{fails_for_good, holds_for_good}
 use Rattle.topo_pred.proofs.Matrices.{matrix_by-least}
-use Rattle.topo_pred.proofs.CellTests.{and-later, or-refutes, or-false-passes, and-false-fails}
+use Rattle.topo_pred.proofs.CellTests.{and-alike, or-against}
 use Rattle.topo_pred.proofs.KnownTests.{known_value, known_none}
 
 -- a dimension from this one on that the mark accepts, if there is one
@@ -61,78 +61,55 @@ moved_by-least :
 moved_by-least f p m up =
     matrix_by-least (λ c. f (mark_at p c) (dimension_at m c)) m (λ c. up (mark_at p c) (dimension_at m c))
 
--- whether the marks of these cells accept their dimensions
-abbrev cells_accept : Pattern → Matrix → List Cell → Bool
-cells_accept p m cs = all_accept (map (λ c. mark_character (mark_at p c)) cs) (map (λ c. dimension_at m c) cs)
+-- whether the cell's mark accepts its dimension
+abbrev meets : Pattern → Matrix → Cell → Bool
+meets p m c = accepts (mark_character (mark_at p c)) (dimension_at m c)
 
--- where all marks hold for good, each later matrix is accepted
-all_hold-later :
-    (p : Pattern) (now later : Matrix) → IsAtLeast later now → (cs : List Cell) →
-    list_all (λ c. holds_for_good (mark_at p c) (dimension_at now c)) cs ≡ true → cells_accept p later cs ≡ true
-all_hold-later p now later more [] h = refl
-all_hold-later p now later more (c ∷ cs) h =
-    and-later (holds_for_good (mark_at p c) (dimension_at now c)) (list_all (λ c. holds_for_good (mark_at p c) (dimension_at now c)) cs)
-    (accepts (mark_character (mark_at p c)) (dimension_at later c)) (cells_accept p later cs)
-    (λ t. holds-later (mark_at p c) (dimension_at now c) (dimension_at later c) t (more c))
-    (all_hold-later p now later more cs)
-    h
+-- whether it never will
+abbrev fails : Pattern → Matrix → Cell → Bool
+fails p m c = fails_for_good (mark_at p c) (dimension_at m c)
 
--- where some mark fails for good, no later matrix is accepted
-some_fails-later :
-    (p : Pattern) (now later : Matrix) → IsAtLeast later now → (cs : List Cell) →
-    list_any (λ c. fails_for_good (mark_at p c) (dimension_at now c)) cs ≡ true → cells_accept p later cs ≡ false
-some_fails-later p now later more [] h = cc
-some_fails-later p now later more (c ∷ cs) h =
-    or-refutes (fails_for_good (mark_at p c) (dimension_at now c)) (list_any (λ c. fails_for_good (mark_at p c) (dimension_at now c)) cs)
-    (accepts (mark_character (mark_at p c)) (dimension_at later c)) (cells_accept p later cs)
-    (λ t. fails-later (mark_at p c) (dimension_at now c) (dimension_at later c) t (more c))
-    (some_fails-later p now later more cs)
-    h
+-- whether it will for good
+abbrev holds : Pattern → Matrix → Cell → Bool
+holds p m c = holds_for_good (mark_at p c) (dimension_at m c)
 
--- where no mark fails for good, some later matrix is accepted
-none_fails-accepted :
-    (p : Pattern) (m : Matrix) (cs : List Cell) →
-    list_any (λ c. fails_for_good (mark_at p c) (dimension_at m c)) cs ≡ false → cells_accept p (moved_by accepted_from p m) cs ≡ true
-none_fails-accepted p m [] h = refl
-none_fails-accepted p m (c ∷ cs) h =
-    or-false-passes (fails_for_good (mark_at p c) (dimension_at m c)) (list_any (λ c. fails_for_good (mark_at p c) (dimension_at m c)) cs)
-    (accepts (mark_character (mark_at p c)) (dimension_at (moved_by accepted_from p m) c)) (cells_accept p (moved_by accepted_from p m) cs)
-    (λ t. ap (λ (d : Dim). accepts (mark_character (mark_at p c)) d) (in_moved accepted_from p m c) ∙ accepted (mark_at p c) (dimension_at m c) t)
-    (none_fails-accepted p m cs)
-    h
+-- where one test hands its value on to another at each cell, all of the one are worth all of the other
+all-alike : (one other : Cell → Bool) (v : Bool) → ((c : Cell) → one c ≡ v → other c ≡ v) → (cs : List Cell) → list_all one cs ≡ v → list_all other cs ≡ v
+all-alike one other v each [] h = h
+all-alike one other v each (c ∷ cs) h = and-alike v (one c) (list_all one cs) (other c) (list_all other cs) (each c) (all-alike one other v each cs) h
 
--- where not all marks hold for good, some later matrix is refused
-not_all_hold-refused :
-    (p : Pattern) (m : Matrix) (cs : List Cell) →
-    list_all (λ c. holds_for_good (mark_at p c) (dimension_at m c)) cs ≡ false → cells_accept p (moved_by refused_from p m) cs ≡ false
-not_all_hold-refused p m [] h = cc
-not_all_hold-refused p m (c ∷ cs) h =
-    and-false-fails (holds_for_good (mark_at p c) (dimension_at m c)) (list_all (λ c. holds_for_good (mark_at p c) (dimension_at m c)) cs)
-    (accepts (mark_character (mark_at p c)) (dimension_at (moved_by refused_from p m) c)) (cells_accept p (moved_by refused_from p m) cs)
-    (λ t. ap (λ (d : Dim). accepts (mark_character (mark_at p c)) d) (in_moved refused_from p m c) ∙ refused (mark_at p c) (dimension_at m c) t)
-    (not_all_hold-refused p m cs)
-    h
+-- where one test refutes another at each cell, so does some of the one all of the other
+any-against : (one other : Cell → Bool) (v : Bool) → ((c : Cell) → one c ≡ v → other c ≡ not v) → (cs : List Cell) → list_any one cs ≡ v
+    → list_all other cs ≡ not v
+any-against one other v each [] h = ap not h
+any-against one other v each (c ∷ cs) h =
+    or-against v (one c) (list_any one cs) (other c) (list_all other cs) (each c) (any-against one other v each cs) h
 
 -- a pattern is false for good once a mark fails for good
-pub pattern_false :
-    (p : Pattern) (m : Matrix) → list_any (λ c. fails_for_good (mark_at p c) (dimension_at m c)) all_cells ≡ true →
-    IsKnown (text_matches (pattern_text p)) m (Some false)
+pub pattern_false : (p : Pattern) (m : Matrix) → list_any (fails p m) all_cells ≡ true → IsKnown (text_matches (pattern_text p)) m (Some false)
 pattern_false p m h =
-    known_value (text_matches (pattern_text p)) m false (λ later more. some_fails-later p m later more all_cells h)
+    known_value (text_matches (pattern_text p)) m false
+    (λ later more. any-against (fails p m) (meets p later) true (λ c t. fails-later (mark_at p c) (dimension_at m c) (dimension_at later c) t (more c)) all_cells h)
 
 -- a pattern is true for good once all marks hold for good
-pub pattern_true :
-    (p : Pattern) (m : Matrix) → list_all (λ c. holds_for_good (mark_at p c) (dimension_at m c)) all_cells ≡ true →
-    IsKnown (text_matches (pattern_text p)) m (Some true)
+pub pattern_true : (p : Pattern) (m : Matrix) → list_all (holds p m) all_cells ≡ true → IsKnown (text_matches (pattern_text p)) m (Some true)
 pattern_true p m h =
-    known_value (text_matches (pattern_text p)) m true (λ later more. all_hold-later p m later more all_cells h)
+    known_value (text_matches (pattern_text p)) m true
+    (λ later more. all-alike (holds p m) (meets p later) true (λ c t. holds-later (mark_at p c) (dimension_at m c) (dimension_at later c) t (more c)) all_cells h)
+
+-- what a mark says of its cell where that is moved
+meets_moved : (f : Mark → Dim → Dim) (p : Pattern) (m : Matrix) (c : Cell) (v : Bool)
+    → accepts (mark_character (mark_at p c)) (f (mark_at p c) (dimension_at m c)) ≡ v → meets p (moved_by f p m) c ≡ v
+meets_moved f p m c v h = ap (accepts (mark_character (mark_at p c))) (in_moved f p m c) ∙ h
 
 -- otherwise what is still to come decides
 pub pattern_open :
-    (p : Pattern) (m : Matrix) → list_any (λ c. fails_for_good (mark_at p c) (dimension_at m c)) all_cells ≡ false →
-    list_all (λ c. holds_for_good (mark_at p c) (dimension_at m c)) all_cells ≡ false →
+    (p : Pattern) (m : Matrix) → list_any (fails p m) all_cells ≡ false → list_all (holds p m) all_cells ≡ false →
     IsKnown (text_matches (pattern_text p)) m None
 pattern_open p m h k =
     known_none (text_matches (pattern_text p)) m (moved_by refused_from p m) (moved_by accepted_from p m)
     (moved_by-least refused_from p m refused_from-least) (moved_by-least accepted_from p m (λ k d. greater-least d (range_of k).0))
-    (not_all_hold-refused p m all_cells k) (none_fails-accepted p m all_cells h)
+    (all-alike (holds p m) (meets p (moved_by refused_from p m)) false
+    (λ c t. meets_moved refused_from p m c false (refused (mark_at p c) (dimension_at m c) t)) all_cells k)
+    (any-against (fails p m) (meets p (moved_by accepted_from p m)) false
+    (λ c t. meets_moved accepted_from p m c true (accepted (mark_at p c) (dimension_at m c) t)) all_cells h)

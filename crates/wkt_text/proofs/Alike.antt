@@ -161,44 +161,28 @@ pub first_slot : (slots : List Slot) (t : Token) (role : Role) (rest : List Move
 first_slot (y ∷ slots) t role rest (both {rule} e h) = record { rule = rule; more = slots; joined = refl }
 first_slot [] t role rest h = elim h [ ]
 
--- A list of moves in two parts, and the slots that are alike to each.
-pub record SplitSlots (front rest : List Move) (slots : List Slot) : Type 0 where
-  pub before : List Slot
-  pub after : List Slot
-  pub joined : slots ≡ before ++ after
-  pub alike_before : AreAlike front before
-  pub alike_after : AreAlike rest after
+-- A list in two parts, each alike to a part of another list.
+pub record Split {A B : Type 0} (IsAlike : List A → List B → Type 0) (front rest : List A) (whole : List B) : Type 0 where
+  pub before : List B
+  pub after : List B
+  pub joined : whole ≡ before ++ after
+  pub alike_before : IsAlike front before
+  pub alike_after : IsAlike rest after
 
-pub split_slots : (front rest : List Move) (slots : List Slot) → AreAlike (front ++ rest) slots → SplitSlots front rest slots
+-- One more at the front of both.
+split_more : {A B : Type 0} {IsAlike : List A → List B → Type 0} {front rest : List A} {whole : List B} (x : A) (y : B)
+    (s : Split IsAlike front rest whole) → IsAlike (x ∷ front) (y ∷ s.before) → Split IsAlike (x ∷ front) rest (y ∷ whole)
+split_more x y s k =
+    record { before = y ∷ s.before; after = s.after; joined = ap (λ u. y ∷ u) s.joined; alike_before = k; alike_after = s.alike_after }
+
+-- A list of moves in two parts, and the slots that are alike to each.
+pub split_slots : (front rest : List Move) (slots : List Slot) → AreAlike (front ++ rest) slots → Split AreAlike front rest slots
 split_slots [] rest slots h = record { before = []; after = slots; joined = refl; alike_before = ended; alike_after = h }
 split_slots (x ∷ front) rest [] h = elim h [ ]
-split_slots (x ∷ front) rest (y ∷ slots) (both e h) =
-    let s = split_slots front rest slots h in
-    record {
-      before = y ∷ s.before;
-      after = s.after;
-      joined = ap (λ u. y ∷ u) s.joined;
-      alike_before = both e s.alike_before;
-      alike_after = s.alike_after;
-    }
+split_slots (x ∷ front) rest (y ∷ slots) (both e h) = let s = split_slots front rest slots h in split_more x y s (both e s.alike_before)
 
 -- A list of slots in two parts, and the moves that are alike to each.
-pub record SplitMoves (front rest : List Slot) (moves : List Move) : Type 0 where
-  pub before : List Move
-  pub after : List Move
-  pub joined : moves ≡ before ++ after
-  pub alike_before : AreAlike before front
-  pub alike_after : AreAlike after rest
-
-pub split_moves : (front rest : List Slot) (moves : List Move) → AreAlike moves (front ++ rest) → SplitMoves front rest moves
+pub split_moves : (front rest : List Slot) (moves : List Move) → AreAlike moves (front ++ rest) → Split (λ ss ms. AreAlike ms ss) front rest moves
 split_moves [] rest moves h = record { before = []; after = moves; joined = refl; alike_before = ended; alike_after = h }
 split_moves (y ∷ front) rest [] h = elim h [ ]
-split_moves (y ∷ front) rest (x ∷ moves) (both e h) =
-    let s = split_moves front rest moves h in
-    record {
-      before = x ∷ s.before;
-      after = s.after;
-      joined = ap (λ u. x ∷ u) s.joined;
-      alike_before = both e s.alike_before;
-      alike_after = s.alike_after;
-    }
+split_moves (y ∷ front) rest (x ∷ moves) (both e h) = let s = split_moves front rest moves h in split_more y x s (both e s.alike_before)

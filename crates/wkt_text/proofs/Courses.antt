@@ -125,49 +125,16 @@ tokens_in-push (x ∷ front) t r = ap (λ u. x.0 ∷ u) (tokens_in-push front t 
 abbrev firsts : {A : Type 0} → List (Token × A) → List Token
 firsts xs = map (λ x. x.0) xs
 
--- Pairs whose tokens end so.
-pub record Pushed (A : Type 0) (xs : List (Token × A)) (ts : List Token) (t : Token) : Type 0 where
-  pub front : List (Token × A)
-  pub last : A
-  pub joined : xs ≡ front ++ (t, last) ∷ []
-  pub tokens : firsts front ≡ ts
-
-pub tokens_pushed : {A : Type 0} (xs : List (Token × A)) (ts : List Token) (t : Token) → firsts xs ≡ ts ++ t ∷ [] → Pushed A xs ts t
-tokens_pushed [] [] t e = absurd (cc)
-tokens_pushed [] (u ∷ ts) t e = absurd (cc)
-tokens_pushed ((v, a) ∷ []) [] t e =
-    record { front = []; last = a; joined = ap (λ w. (w, a) ∷ []) (heads_same {a = v} {b = t} e).0; tokens = refl }
-tokens_pushed (x ∷ y ∷ xs) [] t e = absurd (no_tail (heads_same e).1)
-  where
-    no_tail : {u : Token} {us : List Token} → u ∷ us ≡ [] → ⊥
-    no_tail e = cc
-tokens_pushed ((v, a) ∷ xs) (u ∷ ts) t e =
-    let (same, rest) = heads_same {a = v} {b = u} e in
-    let more = tokens_pushed xs ts t rest in
-    record {
-      front = (v, a) ∷ more.front;
-      last = more.last;
-      joined = ap (λ w. (v, a) ∷ w) more.joined;
-      tokens = λ i. same i ∷ more.tokens i;
-    }
-
-pub run_goes : (moves : List Move) (c : Control) → Run c moves → (d : Control) × Goes c moves d × (d.step ≡ Done)
-run_goes [] c h = (c, refl, h)
-run_goes (x ∷ rest) c (c', e, h) = let (d, g, done) = run_goes rest c' h in (d, (c', e, g), done)
-
-pub goes_parts : (front rest : List Move) (c d : Control) → Goes c (front ++ rest) d → (e : Control) × Goes c front e × Goes e rest d
-goes_parts [] rest c d h = (c, refl, h)
-goes_parts (x ∷ front) rest c d (c₁, e, h) = let (f, g, r) = goes_parts front rest c₁ d h in (f, (c₁, e, g), r)
-
 -- Pairs whose tokens are in two parts are in two parts.
-pub record Parted (A : Type 0) (xs : List (Token × A)) (ts : List Token) : Type 0 where
+pub record Parted (A : Type 0) (xs : List (Token × A)) (ts us : List Token) : Type 0 where
   pub front : List (Token × A)
   pub rest : List (Token × A)
   pub joined : xs ≡ front ++ rest
   pub tokens : firsts front ≡ ts
+  pub others : firsts rest ≡ us
 
-pub tokens_parted : {A : Type 0} (xs : List (Token × A)) (ts us : List Token) → firsts xs ≡ ts ++ us → Parted A xs ts
-tokens_parted xs [] us e = record { front = []; rest = xs; joined = refl; tokens = refl }
+pub tokens_parted : {A : Type 0} (xs : List (Token × A)) (ts us : List Token) → firsts xs ≡ ts ++ us → Parted A xs ts us
+tokens_parted xs [] us e = record { front = []; rest = xs; joined = refl; tokens = refl; others = e }
 tokens_parted [] (t ∷ ts) us e = absurd (cc)
 tokens_parted ((v, a) ∷ xs) (t ∷ ts) us e =
     let (same, rest) = heads_same {a = v} {b = t} e in
@@ -177,4 +144,35 @@ tokens_parted ((v, a) ∷ xs) (t ∷ ts) us e =
       rest = more.rest;
       joined = ap (λ u. (v, a) ∷ u) more.joined;
       tokens = λ i. same i ∷ more.tokens i;
+      others = more.others;
     }
+
+-- Pairs whose tokens end so.
+pub record Pushed (A : Type 0) (xs : List (Token × A)) (ts : List Token) (t : Token) : Type 0 where
+  pub front : List (Token × A)
+  pub last : A
+  pub joined : xs ≡ front ++ (t, last) ∷ []
+  pub tokens : firsts front ≡ ts
+
+-- A list of pairs that has one token.
+one_pair : {A : Type 0} (xs : List (Token × A)) (t : Token) → firsts xs ≡ t ∷ [] → (a : A) × (xs ≡ (t, a) ∷ [])
+one_pair [] t e = absurd (cc)
+one_pair ((v, a) ∷ []) t e = (a, ap (λ w. (w, a) ∷ []) (heads_same {a = v} {b = t} e).0)
+one_pair (x ∷ y ∷ xs) t e = absurd (no_tail (heads_same e).1)
+  where
+    no_tail : {u : Token} {us : List Token} → u ∷ us ≡ [] → ⊥
+    no_tail e = cc
+
+pub tokens_pushed : {A : Type 0} (xs : List (Token × A)) (ts : List Token) (t : Token) → firsts xs ≡ ts ++ t ∷ [] → Pushed A xs ts t
+tokens_pushed xs ts t e =
+    let p = tokens_parted xs ts (t ∷ []) e in
+    let (a, one) = one_pair p.rest t p.others in
+    record { front = p.front; last = a; joined = p.joined ∙ ap (λ u. p.front ++ u) one; tokens = p.tokens }
+
+pub run_goes : (moves : List Move) (c : Control) → Run c moves → (d : Control) × Goes c moves d × (d.step ≡ Done)
+run_goes [] c h = (c, refl, h)
+run_goes (x ∷ rest) c (c', e, h) = let (d, g, done) = run_goes rest c' h in (d, (c', e, g), done)
+
+pub goes_parts : (front rest : List Move) (c d : Control) → Goes c (front ++ rest) d → (e : Control) × Goes c front e × Goes e rest d
+goes_parts [] rest c d h = (c, refl, h)
+goes_parts (x ∷ front) rest c d (c₁, e, h) = let (f, g, r) = goes_parts front rest c₁ d h in (f, (c₁, e, g), r)

@@ -1,10 +1,8 @@
 -- A text has one answer: white space alone, one reading, or one first fault.
-use Rattle.std.proofs.Common.{◌≡◌, ℕ, suc, ◌+◌, Bool, true, Err, List, [], ◌∷◌, ◌++◌, ◌⊎◌, inl, inr, length, drop, refl, sym, ap, subst, ◌∙◌, arith, length-drop}
-use Rattle.std.specs.List.{list_all, prefix_len}
-use Rattle.std.proofs.lemmas.Bool.{and_parts}
+use Rattle.std.proofs.Common.{◌≡◌, ℕ, ◌+◌, ◌≤◌, Err, List, [], ◌∷◌, ◌++◌, ◌⊎◌, inl, inr, length, drop, refl, sym, ap, subst, ◌∙◌, arith, length-drop}
+use Rattle.std.specs.List.{prefix_len}
 use Rattle.std.proofs.lemmas.List.{append-nil, drop_all}
 use Rattle.std.proofs.lemmas.Option.{some_pair_parts}
-use Rattle.std.proofs.Math.Numerals.{one-add}
 use Rattle.point_set.specs.declared.figure.Figure.{Figure}
 use Rattle.wkt_text.specs.Bytes.{is_white}
 use Rattle.wkt_text.specs.declared.word.TypeWord.{TypeWord}
@@ -18,7 +16,7 @@ use Rattle.wkt_text.specs.declared.build.Build.{Build}
 use Rattle.wkt_text.specs.declared.read.Parsed.{Parsed}
 use Rattle.wkt_text.specs.declared.read.WktFault.{WktFault}
 use Rattle.wkt_text.specs.declared.read.WktFault.TheVariants as fault
-pub use Rattle.text_laws.proofs.Fronts.{prefix_len-all}
+use Rattle.text_laws.proofs.Fronts.{list_all-whole, prefix_len-all}
 use Rattle.wkt_text.specs.Tokens.{token_in, lexeme_at}
 use Rattle.wkt_text.specs.Building.{act}
 use Rattle.wkt_text.specs.Grammar.{Writing, joined, apart, Geometry, simple, empty_collection, collection, type_of_simple}
@@ -34,6 +32,18 @@ use Rattle.wkt_text.proofs.Spells.{spelled_run}
 use Rattle.wkt_text.proofs.Courses.{goes_split, err_same}
 use Rattle.wkt_text.proofs.FirstFaults.{Taken, agrees_so, continues_taken, unknown_not_ragged}
 use Rattle.wkt_text.proofs.Progress.{GoesOn, stands_compare, one_reading, right_front}
+
+-- Where the white bytes come to the end, only white space follows.
+pub white_to_end : (bytes : List ℕ) (from : ℕ) → from ≤ length bytes → from + prefix_len is_white (drop from bytes) ≡ length bytes →
+    IsOnlyWhite bytes from
+white_to_end bytes from within e = list_all-whole is_white (drop from bytes) (omega (arith, length-drop from bytes))
+
+-- Where only white space follows, the white bytes come to the end.
+pub end_of_white : (bytes : List ℕ) (from : ℕ) → from ≤ length bytes → IsOnlyWhite bytes from →
+    from + prefix_len is_white (drop from bytes) ≡ length bytes
+end_of_white bytes from within white =
+    let e = prefix_len-all is_white (drop from bytes) white in
+    omega (arith, length-drop from bytes)
 
 white_end : (scale : ℕ) (bytes : List ℕ) (from : ℕ) → IsOnlyWhite bytes from → (lexeme_at scale bytes from).token ≡ token.End
 unfolding lexeme_at

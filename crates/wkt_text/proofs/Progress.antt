@@ -7,7 +7,6 @@ use Rattle.wkt_text.specs.declared.state.Role.{Role}
 use Rattle.wkt_text.specs.declared.state.Role.TheVariants.{Deep}
 use Rattle.wkt_text.specs.declared.state.Site.{Site}
 use Rattle.wkt_text.specs.declared.word.Tag.{Tag}
-use Rattle.wkt_text.specs.declared.word.Tag.TheVariants.{Plain, Z, M, Zm}
 use Rattle.wkt_text.specs.declared.state.Step.{Step}
 use Rattle.wkt_text.specs.declared.state.Step.TheVariants.{Two, Three, Done}
 use Rattle.wkt_text.specs.declared.state.Control.{Control}
@@ -56,15 +55,16 @@ lexeme_moves scale bytes from = elim (token_moves scale (drop (place_of bytes fr
   | inr some ↦ inr (omega (arith, some))
 ]
 
+-- The step after the second and the one after the third ordinate refuse the end, whatever the tag.
+two_refuses : (s : Site) (d : ℕ) (tag : Tag) → advance_by Two (at Two s d tag) token.End ≡ None
+two_refuses s d tag = grind arith
+
+three_refuses : (s : Site) (d : ℕ) (tag : Tag) → advance_by Three (at Three s d tag) token.End ≡ None
+three_refuses s d tag = grind arith
+
 end_refused_by : (step : Step) (s : Site) (d : ℕ) (tag : Tag) → advance_by step (at step s d tag) token.End ≡ None
-end_refused_by Two s d Plain = refl
-end_refused_by Two s d Z = refl
-end_refused_by Two s d M = refl
-end_refused_by Two s d Zm = refl
-end_refused_by Three s d Plain = refl
-end_refused_by Three s d Z = refl
-end_refused_by Three s d M = refl
-end_refused_by Three s d Zm = refl
+end_refused_by Two s d tag = two_refuses s d tag
+end_refused_by Three s d tag = three_refuses s d tag
 end_refused_by other s d tag = refl
 
 -- The end of the source is never taken, so what is taken moves on.

@@ -78,6 +78,13 @@ pub record IsBuilt (b : Build) : Type 0 where
   few : (((positions_of b.figure + length b.way) + shell_length b.shell) + sum_by length b.holes) + begun b.x ≤ b.count
   most : b.count ≤ most_positions
 
+-- A build is well shaped by its parts.
+built_of : {b : Build} → IsWayInLimit b.figure.points → All IsLineShaped b.figure.lines → All IsAreaShaped b.figure.areas → IsWayInLimit b.way →
+    IsShellShaped b.shell → All IsRingShaped b.holes → IsXNear b.x →
+    (((positions_of b.figure + length b.way) + shell_length b.shell) + sum_by length b.holes) + begun b.x ≤ b.count →
+    b.count ≤ most_positions → IsBuilt b
+built_of ps ls rs w s hs x f m = record { points = ps; lines = ls; areas = rs; way = w; shell = s; holes = hs; x = x; few = f; most = m }
+
 value_near : (t : Token) (z : ℤ) → IsTokenNear t → place_value t ≡ Ok z → IsNear z
 value_near (token.Number Long) z n e = absurd (cc)
 value_near (token.Number Malformed) z n e = absurd (cc)
@@ -86,34 +93,12 @@ value_near (token.Number Wide) z n e = absurd (cc)
 value_near (token.Number (Whole y)) z n e = let same : y ≡ z = cc in subst IsNear same n
 value_near other z n e = absurd (cc)
 
-near_point : (x y : ℤ) → IsNear x → IsNear y → IsInLimit (record { x = x; y = y })
-near_point x y a b = record { left = a.0; right = a.1; bottom = b.0; top = b.1 }
-
 pub built_start : IsBuilt start_build
-built_start = record {
-  points = All-nil IsInLimit;
-  lines = All-nil IsLineShaped;
-  areas = All-nil IsAreaShaped;
-  way = All-nil IsInLimit;
-  shell = tt;
-  holes = All-nil IsRingShaped;
-  x = tt;
-  few = omega arith;
-  most = omega arith;
-}
+built_start =
+    built_of (All-nil IsInLimit) (All-nil IsLineShaped) (All-nil IsAreaShaped) (All-nil IsInLimit) tt (All-nil IsRingShaped) tt (omega arith) (omega arith)
 
 good_x : (b : Build) (z : ℤ) → IsBuilt b → IsNear z → b.count < most_positions → IsBuilt (with_x b z)
-good_x b z h n c = record {
-  points = h.points;
-  lines = h.lines;
-  areas = h.areas;
-  way = h.way;
-  shell = h.shell;
-  holes = h.holes;
-  x = n;
-  few = omega (arith, h.few);
-  most = omega arith;
-}
+good_x b z h n c = built_of h.points h.lines h.areas h.way h.shell h.holes n (omega (arith, h.few)) (omega arith)
 
 -- The count, where it is known what was begun.
 few_with : (b : Build) (o : Option ℤ) → b.x ≡ o → IsBuilt b →
@@ -121,39 +106,21 @@ few_with : (b : Build) (o : Option ℤ) → b.x ≡ o → IsBuilt b →
 few_with b o e h =
     subst (λ o. (((positions_of b.figure + length b.way) + shell_length b.shell) + sum_by length b.holes) + begun o ≤ b.count) e h.few
 
+-- The point that is ended is within the limit.
+begun_near : (b : Build) (x z : ℤ) → b.x ≡ Some x → IsBuilt b → IsNear z → IsInLimit (record { x = x; y = z })
+begun_near b x z e h n = let near = subst IsXNear e h.x in record { left = near.0; right = near.1; bottom = n.0; top = n.1 }
+
 good_point : (b : Build) (o : Option ℤ) (z : ℤ) → b.x ≡ o → IsBuilt b → IsNear z → IsBuilt (with_point b o z)
 good_point b None z e h n = h
 good_point b (Some x) z e h n =
-    let near : IsNear x = subst IsXNear e h.x in
-    let few = few_with b (Some x) e h in
-    record {
-      points = All-push IsInLimit b.figure.points _ h.points (near_point x z near n);
-      lines = h.lines;
-      areas = h.areas;
-      way = h.way;
-      shell = h.shell;
-      holes = h.holes;
-      x = tt;
-      few = rw (length_push b.figure.points (record { x = x; y = z })) (omega (arith, few));
-      most = h.most;
-    }
+    built_of (All-push IsInLimit b.figure.points _ h.points (begun_near b x z e h n)) h.lines h.areas h.way h.shell h.holes tt
+    (rw (length_push b.figure.points (record { x = x; y = z })) (omega (arith, few_with b (Some x) e h))) h.most
 
 good_position : (b : Build) (o : Option ℤ) (z : ℤ) → b.x ≡ o → IsBuilt b → IsNear z → IsBuilt (with_position b o z)
 good_position b None z e h n = h
 good_position b (Some x) z e h n =
-    let near : IsNear x = subst IsXNear e h.x in
-    let few = few_with b (Some x) e h in
-    record {
-      points = h.points;
-      lines = h.lines;
-      areas = h.areas;
-      way = All-push IsInLimit b.way _ h.way (near_point x z near n);
-      shell = h.shell;
-      holes = h.holes;
-      x = tt;
-      few = rw (length_push b.way (record { x = x; y = z })) (omega (arith, few));
-      most = h.most;
-    }
+    built_of h.points h.lines h.areas (All-push IsInLimit b.way _ h.way (begun_near b x z e h n)) h.shell h.holes tt
+    (rw (length_push b.way (record { x = x; y = z })) (omega (arith, few_with b (Some x) e h))) h.most
 
 ends_meet_closed : (way : List Pt) → ends_meet way ≡ true → IsClosed way
 ends_meet_closed [] e = refl
@@ -178,43 +145,19 @@ line_test true e = absurd (cc)
 line_test false e = refl
 
 good_line : (b : Build) → IsBuilt b → Holds IsBuilt (act_by b role.EndLine token.Close)
-good_line b h = holds_unless IsBuilt (line_fault b.way) (with_line b) (λ e. record {
-  points = h.points;
-  lines = All-push IsLineShaped b.figure.lines b.way h.lines (record { within = h.way; long = ltb-false (length b.way) 2 (line_test _ e) });
-  areas = h.areas;
-  way = All-nil IsInLimit;
-  shell = h.shell;
-  holes = h.holes;
-  x = h.x;
-  few = rw (sum_by_push length b.figure.lines b.way) (omega (arith, h.few));
-  most = h.most;
-})
+good_line b h = holds_unless IsBuilt (line_fault b.way) (with_line b) (λ e.
+    let shaped : IsLineShaped b.way = record { within = h.way; long = ltb-false (length b.way) 2 (line_test _ e) } in
+    built_of h.points (All-push IsLineShaped b.figure.lines b.way h.lines shaped) h.areas (All-nil IsInLimit) h.shell h.holes h.x
+    (rw (sum_by_push length b.figure.lines b.way) (omega (arith, h.few))) h.most)
 
 good_shell : (b : Build) → IsBuilt b → Holds IsBuilt (act_by b role.EndShell token.Close)
-good_shell b h = holds_unless IsBuilt (ring_fault b.way) _ (λ e. record {
-  points = h.points;
-  lines = h.lines;
-  areas = h.areas;
-  way = All-nil IsInLimit;
-  shell = ring_shaped b.way h.way e;
-  holes = h.holes;
-  x = h.x;
-  few = omega (arith, h.few);
-  most = h.most;
-})
+good_shell b h = holds_unless IsBuilt (ring_fault b.way) _ (λ e.
+    built_of h.points h.lines h.areas (All-nil IsInLimit) (ring_shaped b.way h.way e) h.holes h.x (omega (arith, h.few)) h.most)
 
 good_hole : (b : Build) → IsBuilt b → Holds IsBuilt (act_by b role.EndHole token.Close)
-good_hole b h = holds_unless IsBuilt (ring_fault b.way) _ (λ e. record {
-  points = h.points;
-  lines = h.lines;
-  areas = h.areas;
-  way = All-nil IsInLimit;
-  shell = h.shell;
-  holes = All-push IsRingShaped b.holes b.way h.holes (ring_shaped b.way h.way e);
-  x = h.x;
-  few = rw (sum_by_push length b.holes b.way) (omega (arith, h.few));
-  most = h.most;
-})
+good_hole b h = holds_unless IsBuilt (ring_fault b.way) _ (λ e.
+    built_of h.points h.lines h.areas (All-nil IsInLimit) h.shell (All-push IsRingShaped b.holes b.way h.holes (ring_shaped b.way h.way e)) h.x
+    (omega (arith, h.few, sum_by_push length b.holes b.way)) h.most)
 
 good_area : (b : Build) (o : Option (List Pt)) → b.shell ≡ o → IsBuilt b → IsBuilt (with_area b o)
 good_area b None e h = h
@@ -223,30 +166,11 @@ good_area b (Some ring) e h =
     let few =
     subst (λ o. (((positions_of b.figure + length b.way) + shell_length o) + sum_by length b.holes) + begun b.x ≤ b.count) e h.few in
     let more : Area = record { shell = ring; holes = b.holes; group = b.group } in
-    record {
-      points = h.points;
-      lines = h.lines;
-      areas = All-push IsAreaShaped b.figure.areas more h.areas (record { shell = shaped; holes = h.holes });
-      way = h.way;
-      shell = tt;
-      holes = All-nil IsRingShaped;
-      x = h.x;
-      few = rw (sum_by_push positions_of_area b.figure.areas more) (omega (arith, few));
-      most = h.most;
-    }
+    built_of h.points h.lines (All-push IsAreaShaped b.figure.areas more h.areas (record { shell = shaped; holes = h.holes })) h.way tt
+    (All-nil IsRingShaped) h.x (rw (sum_by_push positions_of_area b.figure.areas more) (omega (arith, few))) h.most
 
 same_built : (b : Build) → IsBuilt b → Holds IsBuilt (act_by b role.Group token.Open)
-same_built b h = record {
-  points = h.points;
-  lines = h.lines;
-  areas = h.areas;
-  way = h.way;
-  shell = h.shell;
-  holes = h.holes;
-  x = h.x;
-  few = h.few;
-  most = h.most;
-}
+same_built b h = built_of h.points h.lines h.areas h.way h.shell h.holes h.x h.few h.most
 
 -- A token whose value is within the limit keeps what is built well shaped.
 good_act : (b : Build) (r : Role) (t : Token) → IsBuilt b → IsTokenNear t → Holds IsBuilt (act_by b r t)

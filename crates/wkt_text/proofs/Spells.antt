@@ -30,24 +30,27 @@ after_done e = cc
 body_done : (kind : TypeWord) → Body kind ≡ Done → ⊥
 body_done kind e = cc
 
+-- A step that takes a comma and a closing bracket as the step after an item does.
+run_ending : (step : Step) (s : Site) (d : ℕ) (tag : Tag) → advance (at step s d tag) token.Comma ≡ advance (at After s d tag) token.Comma →
+    advance (at step s d tag) token.Close ≡ advance (at After s d tag) token.Close → (rest : List Move) → Run (at After s d tag) rest →
+    Run (at step s d tag) rest
+unfolding advance
+run_ending step s d tag comma close [] e = absurd (after_done e)
+run_ending step s d tag comma close ((token.Comma, r) ∷ rest) (c, e, h) = (c, comma ∙ e, h)
+run_ending step s d tag comma close ((token.Close, r) ∷ rest) (c, e, h) = (c, close ∙ e, h)
+run_ending step s d tag comma close ((other, r) ∷ rest) h = absurd (none-some _ h.1)
+
 run_full : (s : Site) (d : ℕ) (tag : Tag) (rest : List Move) → Run (at After s d tag) rest → Run (at Full s d tag) rest
 unfolding advance
-run_full s d tag [] e = absurd (after_done e)
-run_full s d tag (x ∷ rest) h = h
+run_full s d tag = run_ending Full s d tag refl refl
 
 run_two_plain : (s : Site) (d : ℕ) (rest : List Move) → Run (at After s d Plain) rest → Run (at Two s d Plain) rest
 unfolding advance
-run_two_plain s d [] e = absurd (after_done e)
-run_two_plain s d ((token.Comma, r) ∷ rest) h = h
-run_two_plain s d ((token.Close, r) ∷ rest) h = h
-run_two_plain s d ((other, r) ∷ rest) h = absurd (none-some _ h.1)
+run_two_plain s d = run_ending Two s d Plain refl refl
 
 run_three_plain : (s : Site) (d : ℕ) (rest : List Move) → Run (at After s d Plain) rest → Run (at Three s d Plain) rest
 unfolding advance
-run_three_plain s d [] e = absurd (after_done e)
-run_three_plain s d ((token.Comma, r) ∷ rest) h = h
-run_three_plain s d ((token.Close, r) ∷ rest) h = h
-run_three_plain s d ((other, r) ∷ rest) h = absurd (none-some _ h.1)
+run_three_plain s d = run_ending Three s d Plain refl refl
 
 run_further : (s : Site) (d : ℕ) (o : Option Ordinate) (rest : List Move) → Run (at After s d Plain) rest →
     Run (at Three s d Plain) (further_then o rest)

@@ -1,17 +1,10 @@
 -- What is said of a number, found from the front of its digits.
-use Rattle.std.proofs.Common.{◌≡◌, ℕ, zero, suc, ◌+◌, ◌-◌, ◌*◌, ◌/◌, ◌%◌, ◌^◌, ◌<◌, ◌≤◌, min, Bool, true, false, cond, ◌&&◌, ◌==◌, nat_lt, List, [], ◌∷◌, ◌++◌, inl, inr, Some, None, length, take, drop, refl, sym, ◌∙◌, ap, arith, length-append, length-drop, take-append-drop}
-use Rattle.std.proofs.lemmas.Bool.{cases_lt, false≢true, eqb-true, cases_Bool, and_parts, and_from}
+use Rattle.std.proofs.Common.{◌≡◌, ℕ, ◌+◌, ◌-◌, ◌*◌, ◌^◌, ◌≤◌, Bool, true, false, cond, nat_lt, List, ◌++◌, inl, inr, Some, None, length, take, drop, refl, sym, ◌∙◌, ap, arith, length-append}
+use Rattle.std.proofs.lemmas.Bool.{cases_lt}
 use Rattle.std.proofs.lemmas.Bool.Decides.{nat_tests}
-use Rattle.std.proofs.lemmas.List.{take_all, take_rest, drop-drop, drop_all, take-append-le, drop-append-le, append-nil}
-use Rattle.std.proofs.lemmas.List.Sums.{fold-append}
-use Rattle.std.proofs.lemmas.List.Folds.{list_all-append}
-use Rattle.std.proofs.lemmas.Nat.{pow-add, mul-le, div-mul-add, mod-mul-add}
-use Rattle.std.proofs.Math.Seq.{take-append-add, drop-append-add}
-use Rattle.std.proofs.Math.Nat.{zero-mul, mul_assoc, mul_comm, add-mul, pow-succ', mul-le-mul_right, mul-lt-mul_of_pos_right, mul_left_comm, mul-mod_left, mul-div_left}
 use Rattle.std.specs.List.{list_all}
-use Rattle.std.proofs.Math.Numerals.{one-add, add-one}
 use Rattle.std.specs.Char.{is_ascii_digit}
-use Rattle.text_laws.specs.Numbers.{read_on, from_digits, capped, is_zero, kept_value, up_of, down_of, unsigned, is_minus, mantissa, after_mantissa, whole_part, fraction_part, is_formed, is_mantissa, is_exponent, exponent_size, is_exponent_minus}
+use Rattle.text_laws.specs.Numbers.{from_digits, capped, is_zero, kept_value, up_of, down_of, unsigned, is_minus, mantissa, after_mantissa, whole_part, fraction_part, is_formed, exponent_size, is_exponent_minus}
 use Rattle.plane_exact.specs.Limits.{limit}
 use Rattle.wkt_text.specs.declared.number.Numeral.TheVariants.{Fraction}
 use Rattle.wkt_text.specs.Limits.{most_bytes}
