@@ -1,12 +1,12 @@
 //! Rings that enter squares and touch them, with answers worked by hand.
 ghost use Rattle.std.specs.Prelude.{◌≡◌, IsTrue, All, Some};
-ghost use Rattle.area_entry.specs.RowSections.{AreOfOneArea, IsRowSound};
+ghost use Rattle.area_entry.specs.RowSections.{AreOfOneArea};
 ghost use Rattle.point_set.specs.Edges.{area_of};
 
 use crate::entering::enters;
-use crate::near_rows::NearRows;
+use crate::near_rows::{NearRows, are_sound};
 use im_matrix::{Loc, Which};
-use plane_exact::{MOST_POSITIONS, NoMemory, Node, Pt, Seg, in_limit};
+use plane_exact::{MOST_POSITIONS, NoMemory, Node, Pt, Seg};
 use point_set::{Edge, EdgeRows, Hand, Owner};
 use std::alloc::Global;
 use std::process::Abort;
@@ -38,19 +38,6 @@ fn rows_of(alloc: Global, ring: &[(i64, i64)]) -> Result<EdgeRows, NoMemory> {
     let mut rows = EdgeRows::new(alloc);
     add_ring(&mut rows, ring, Hand::Left)?;
     Ok(rows)
-}
-
-/// Whether each edge has two different ends within the limit.
-fn are_sound(rows: &EdgeRows) -> bool
-    ensures sound { IsTrue result → All IsRowSound rows.now }
-{
-    rows.as_slice().iter().all(|row| is_sound(row))
-}
-
-fn is_sound(row: &Edge) -> bool
-    ensures sound { IsTrue result → IsRowSound row.now }
-{
-    in_limit(row.seg.a) && in_limit(row.seg.b) && row.seg.a != row.seg.b
 }
 
 /// Whether the rows are those of rings of the first area.

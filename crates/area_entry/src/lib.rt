@@ -9,5 +9,5 @@ mod near_rows;
 mod sections;
 
 pub use entering::enters;
-pub use near_rows::NearRows;
+pub use near_rows::{NearRows, are_sound};
 pub use sections::sections_at;

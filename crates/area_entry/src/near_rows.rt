@@ -1,10 +1,10 @@
-ghost use Rattle.std.specs.Prelude.{◌≡◌, IfOk};
-ghost use Rattle.area_entry.specs.RowSections.{segs_of_rows};
+ghost use Rattle.std.specs.Prelude.{◌≡◌, ◌↔◌, All, IfOk, IsTrue};
+ghost use Rattle.area_entry.specs.RowSections.{IsRowSound, segs_of_rows};
 
 use crate::sections::sections_at;
 use edge_index::EdgeIndex;
 use fan_order::SectionList;
-use plane_exact::{NoMemory, Node, PlaceList, Seg, SegList, Window};
+use plane_exact::{NoMemory, Node, PlaceList, Seg, SegList, Window, in_limit};
 use point_set::{Edge, EdgeRows};
 use std::alloc::Global;
 use std::marker::Model;
@@ -107,4 +107,17 @@ fn segs_of(alloc: Global, rows: &EdgeRows) -> Result<SegList, NoMemory>
         segs.push(row.seg)?;
     }
     Ok(segs)
+}
+
+/// Whether each edge has two different ends within the limit: as those among which an edge is looked for have.
+pub fn are_sound(rows: &EdgeRows) -> bool
+    ensures sound { IsTrue result ↔ (All IsRowSound rows.now) }
+{
+    rows.as_slice().iter().all(|row| is_sound(row))
+}
+
+fn is_sound(row: &Edge) -> bool
+    ensures sound { IsTrue result ↔ (IsRowSound row.now) }
+{
+    in_limit(row.seg.a) && in_limit(row.seg.b) && row.seg.a != row.seg.b
 }

@@ -1,8 +1,5 @@
-ghost use Rattle.std.specs.Prelude.{◌↔◌, IsTrue, All};
-ghost use Rattle.fan_order.specs.Rays.{IsShort};
-
 use super::{Pair, label_ray, label_sector};
-use fan_order::{Fan, Section, SectionList};
+use fan_order::{Fan, Section, SectionList, are_short};
 use im_matrix::{Loc, Which};
 use plane_exact::{Dir, NoMemory};
 use point_set::{DimLoc, Hand};
@@ -69,19 +66,6 @@ fn list_of(alloc: Global, sections: &[Section]) -> Result<SectionList, NoMemory>
         list.push(*section)?;
     }
     Ok(list)
-}
-
-/// Whether the directions of all sections are short enough for a fan.
-fn are_short(sections: &SectionList) -> bool
-    ensures short { IsTrue result → All (λ s. IsShort s.dir) sections.now }
-{
-    sections.as_slice().iter().all(|s| is_short(s.dir))
-}
-
-fn is_short(d: Dir) -> bool
-    ensures short { IsTrue result ↔ IsShort d }
-{
-    d.dx.unsigned_abs() <= 2_097_150 && d.dy.unsigned_abs() <= 2_097_150
 }
 
 /// The labels of the rays and the sectors of some sections at a node of these kinds.

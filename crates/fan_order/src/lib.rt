@@ -13,5 +13,5 @@ mod toward;
 mod walk;
 
 pub use fan::Fan;
-pub use section::{Section, SectionList};
+pub use section::{Section, SectionList, are_short};
 pub use toward::add_sections;

@@ -1,3 +1,6 @@
+ghost use Rattle.std.specs.Prelude.{◌↔◌, All, IsTrue};
+ghost use Rattle.fan_order.specs.Rays.{IsShort};
+
 use im_matrix::Which;
 use plane_exact::{Dir, ItemList};
 use point_set::Hand;
@@ -29,3 +32,22 @@ impl Default for Section {
 
 /// Sections in order.
 pub type SectionList = ItemList<Section>;
+
+/// The greatest size that a part of a difference of two positions has.
+const SPREAD: u64 = 2_097_150;
+
+/// Whether the directions of all sections are short enough for a fan: as those between two positions are.
+pub fn are_short(sections: &SectionList) -> bool
+    ensures short { IsTrue result ↔ (All (λ s. IsShort s.dir) sections.now) }
+{
+    sections
+        .as_slice()
+        .iter()
+        .all(|section| is_short(section.dir))
+}
+
+fn is_short(d: Dir) -> bool
+    ensures short { IsTrue result ↔ (IsShort d) }
+{
+    d.dx.unsigned_abs() <= SPREAD && d.dy.unsigned_abs() <= SPREAD
+}

@@ -1,8 +1,7 @@
-ghost use Rattle.std.specs.Prelude.{◌≡◌, ◌<◌, ◌↔◌, IsTrue, All};
+ghost use Rattle.std.specs.Prelude.{◌≡◌, ◌<◌};
 ghost use Rattle.plane_exact.specs.Directions.{IsWay};
-ghost use Rattle.fan_order.specs.Rays.{IsShort};
 
-use super::{Fan, Section, SectionList};
+use super::{Fan, Section, SectionList, are_short};
 use im_matrix::Which;
 use plane_exact::Dir;
 use point_set::Hand;
@@ -21,19 +20,6 @@ fn toward(dx: i64, dy: i64) -> Section
         which: Which::B,
         area: None,
     }
-}
-
-/// Whether the directions of all sections are short enough for a fan.
-fn are_short(sections: &SectionList) -> bool
-    ensures short { IsTrue result → All (λ s. IsShort s.dir) sections.now }
-{
-    sections.as_slice().iter().all(|s| is_short(s.dir))
-}
-
-fn is_short(d: Dir) -> bool
-    ensures short { IsTrue result ↔ IsShort d }
-{
-    d.dx.unsigned_abs() <= 2_097_150 && d.dy.unsigned_abs() <= 2_097_150
 }
 
 fn assert_rays(rt: &impl Abort, fan: &Fan, rays: &[(i64, i64)]) {

@@ -3,7 +3,6 @@ ghost use Rattle.plane_exact.specs.NodePoints.{point_at};
 ghost use Rattle.plane_exact.specs.Places.{IsInLimit, point_of};
 ghost use Rattle.plane_laws.specs.Plane.{IsSamePoint};
 ghost use Rattle.point_set.specs.Edges.{area_of};
-ghost use Rattle.point_set.specs.Sides.{other_hand};
 ghost use Rattle.point_set.specs.Validity.{IsOnEdge};
 ghost use Rattle.fan_order.specs.Rays.{IsShort};
 ghost use Rattle.fan_order.specs.Sections.{IsSectionOfEdge, AddsSectionsOf};
@@ -80,7 +79,7 @@ fn section_back(edge: &Edge, which: Which) -> Section
 {
     Section {
         dir: way(edge.seg.b, edge.seg.a),
-        hand: opposite(edge.hand),
+        hand: edge.hand.opposite(),
         which,
         area: area(edge.owner),
     }
@@ -107,16 +106,5 @@ fn area(owner: Owner) -> Option<u32>
     match owner {
         Owner::Line(_) => None,
         Owner::Ring(area, _) => Some(area),
-    }
-}
-
-/// The other hand.
-fn opposite(hand: Hand) -> Hand
-    ensures other { result ≡ other_hand hand }
-{
-    match hand {
-        Hand::Line => Hand::Line,
-        Hand::Left => Hand::Right,
-        Hand::Right => Hand::Left,
     }
 }

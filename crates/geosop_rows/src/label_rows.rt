@@ -1,14 +1,11 @@
 //! The parts of both figures along the rays and in the sectors round a node of the two.
-ghost use Rattle.std.specs.Prelude.{◌↔◌, IsTrue, All};
-ghost use Rattle.fan_order.specs.Rays.{IsShort};
-
 use crate::figures::{
     BOTH_SQUARES, FOUR_SQUARES, NOTHING, ROUND, RULES, SQUARE, figure_of, node_at,
 };
 use fan_label::{Pair, label_ray, label_sector};
-use fan_order::{Fan, SectionList};
+use fan_order::{Fan, SectionList, are_short};
 use im_matrix::Loc;
-use plane_exact::{Dir, Node};
+use plane_exact::Node;
 use point_set::{DimLoc, Rule, Target, Valid};
 use relate_core::laws::fill;
 use std::alloc::Global;
@@ -68,19 +65,6 @@ fn sections_at(
         }
     }
     Err(Fail::new("too many nodes"))
-}
-
-/// Whether the directions of all sections are short enough for a fan.
-fn are_short(sections: &SectionList) -> bool
-    ensures short { IsTrue result → All (λ s. IsShort s.dir) sections.now }
-{
-    sections.as_slice().iter().all(|s| is_short(s.dir))
-}
-
-fn is_short(d: Dir) -> bool
-    ensures short { IsTrue result ↔ IsShort d }
-{
-    d.dx.unsigned_abs() <= 2_097_150 && d.dy.unsigned_abs() <= 2_097_150
 }
 
 /// A fan at a node of two figures, and the kinds of the node in both.

@@ -12,7 +12,7 @@ use Rattle.whole_algebra.proofs.Laws.{linear}
 use Rattle.whole_algebra.proofs.Polynomials.{var, num, ◌⊕◌, ◌⊗◌, identity}
 use Rattle.plane_laws.proofs.Segments.Mixes.{start_on_segment, end_on_segment}
 use Rattle.plane_exact.specs.Places.{point_of}
-use Rattle.plane_exact.specs.Windows.{IsInWindow, IsWithin, HasCommonPoint, IsLeastWindow}
+use Rattle.plane_exact.specs.Windows.{IsInWindow, IsWithin, HasCommonPoint, IsLeastWindow, low_corner, high_corner}
 use Rattle.plane_exact.specs.declared.point.Pt.{Pt}
 use Rattle.plane_exact.specs.declared.window.Window.{Window}
 
@@ -158,3 +158,11 @@ least_of_point box p across above = record { holds = λ q same. held q same; lea
       bottom = no_lower other.low_y box.low_y p.y p.w p.heavy h.bottom above.lowest;
       top = no_higher other.high_y box.high_y p.y p.w p.heavy h.top above.highest;
     }
+
+-- a box that has a point is the window of its diagonal
+pub diagonal_window : (box other : Window) → HasCommonPoint box other
+    → IsLeastWindow (IsOnSegment (point_of (low_corner box)) (point_of (high_corner box))) box
+diagonal_window box other common =
+    let sides = low_at_most_high box other common in
+    least_of_ends box (low_corner box) (high_corner box) (omega (arith, ints, clamps, sides.0)) (omega (arith, ints, clamps, sides.1))
+    (omega (arith, ints, clamps, sides.0)) (omega (arith, ints, clamps, sides.1))

@@ -3,6 +3,7 @@ use Rattle.std.specs.Prelude.{◌*ℤ◌, ◌≤ℤ◌}
 use Rattle.std.specs.Int.{int_max, int_min}
 use Rattle.plane_laws.specs.Plane.{Point}
 use Rattle.plane_exact.specs.declared.point.Pt.{Pt}
+use Rattle.plane_exact.specs.declared.point.Seg.{Seg}
 use Rattle.plane_exact.specs.declared.window.Window.{Window}
 
 -- The point is in the box, its sides and corners included.
@@ -36,6 +37,10 @@ low_corner box = record { x = box.low_x; y = box.low_y }
 
 abbrev pub high_corner : Window → Pt
 high_corner box = record { x = box.high_x; y = box.high_y }
+
+-- The segment from the corner of a box's low sides to that of its high sides.
+abbrev pub diagonal_of : Window → Seg
+diagonal_of box = record { a = low_corner box; b = high_corner box }
 
 -- The least box that holds both.
 abbrev pub join_boxes : Window → Window → Window

@@ -1,9 +1,13 @@
-ghost use Rattle.std.specs.Prelude.{◌≡◌, IsTrue, ◌↔◌};
+ghost use Rattle.std.specs.Prelude.{◌≡◌, ◌↔◌, IfOk, IsTrue, map};
 ghost use Rattle.std.specs.Int.{int_max, int_min};
+ghost use Rattle.plane_exact.specs.Windows.{diagonal_of};
 
+use crate::items::NoMemory;
+use crate::lists::SegList;
 use crate::node::Node;
-use crate::point::Seg;
+use crate::point::{Pt, Seg};
 use crate::rounding::whole_range;
+use std::alloc::Global;
 
 /// A closed box. It is empty where a low side is beyond its high one.
 #[derive(Clone, Copy, Debug, PartialEq, Eq)]
@@ -73,4 +77,34 @@ impl Window {
             high_y: self.high_y.max(other.high_y),
         }
     }
+
+    /// The segment from the corner of the low sides to that of the high sides. Where the box isn't empty, it is the segment's window.
+    pub fn diagonal(&self) -> Seg
+        ensures diagonal { result ≡ diagonal_of self.now }
+    {
+        Seg {
+            a: Pt {
+                x: self.low_x,
+                y: self.low_y,
+            },
+            b: Pt {
+                x: self.high_x,
+                y: self.high_y,
+            },
+        }
+    }
+}
+
+/// The diagonals of boxes, in order: an index of them is one of the boxes.
+///
+/// # Errors
+/// `NoMemory`.
+pub fn diagonals_of(alloc: Global, boxes: &[Window]) -> Result<SegList, NoMemory>
+    ensures diagonals { IfOk result (λ segs. segs ≡ map diagonal_of boxes.now) }
+{
+    let mut segs = SegList::new(alloc);
+    for around in boxes {
+        segs.push(around.diagonal())?;
+    }
+    Ok(segs)
 }

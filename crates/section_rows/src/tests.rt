@@ -1,10 +1,7 @@
-ghost use Rattle.std.specs.Prelude.{IsTrue, All};
-ghost use Rattle.area_entry.specs.RowSections.{IsRowSound};
-
-use area_entry::NearRows;
+use area_entry::{NearRows, are_sound};
 use node_table::{Entry, NodeTable};
-use plane_exact::{MOST_POSITIONS, NoMemory, Node, Pt, in_limit};
-use point_set::{Edge, EdgeRows, Target, Valid};
+use plane_exact::{MOST_POSITIONS, NoMemory, Node, Pt};
+use point_set::{EdgeRows, Target, Valid};
 use relate_core::laws::fill;
 use ring_sides::edges_of;
 use row_figures::{chain, figure_of, star};
@@ -53,19 +50,6 @@ fn a_thousand_lines_with_themselves_at_their_common_point(rt: HostRuntime) -> Re
     let lines = figure_of(rt.alloc(), text.as_str())?;
     assert_eq!(rt; sections_of_itself(rt.alloc(), &lines, 2_001)?, Some(4_000));
     Ok(())
-}
-
-// Whether each edge has two different ends within the limit.
-fn are_sound(rows: &EdgeRows) -> bool
-    ensures sound { IsTrue result → All IsRowSound rows.now }
-{
-    rows.as_slice().iter().all(|row| is_sound(row))
-}
-
-fn is_sound(row: &Edge) -> bool
-    ensures sound { IsTrue result → IsRowSound row.now }
-{
-    in_limit(row.seg.a) && in_limit(row.seg.b) && row.seg.a != row.seg.b
 }
 
 // The edges of the area whose holes are a chain.
