@@ -1,3 +1,4 @@
 pub mod Counted
 pub mod LineEnds
 pub mod AtSpots
+mod Items

@@ -58,17 +58,8 @@ module _ (which : Which) (sections : List Section) (alike : AreHandsAlike which 
   last_moved : (k m n : ℕ) (l : EntersLast which k sections way m) → l.place < n
       → ((q : ℕ) (r : Dir) (t : Section) → l.place < q → q < n → IsAtPlace way q r → Contains sections t → IsAreaAlong which k r t → ⊥)
       → EntersLast which k sections way n
-  last_moved k m n l below none = record {
-    place = l.place;
-    below = below;
-    ray = l.ray;
-    ray_is = l.ray_is;
-    s = l.s;
-    there = l.there;
-    along = l.along;
-    left = l.left;
-    none = none;
-  }
+  last_moved k m n l below none =
+      record { place = _; below = below; ray = _; ray_is = l.ray_is; s = _; there = l.there; along = l.along; left = l.left; none = none }
 
   -- one ray more
   last_more : (k m : ℕ) (ray : Dir) → IsAtPlace way m ray → (mid b : Bool) → IsStep which k sections ray mid b

@@ -12,7 +12,8 @@ equal_test Equal b e = (λ h. refl, λ h. e)
 equal_test Greater b e = (λ h. cc, λ h. cc)
 
 -- what it says of the order of two points
-pub same_by_test : (p q : Point) (o : Ordering) (b : Bool) → o ≡ compare_points p q → b ≡ (ordering_index o == 1) → IsTrue b ↔ IsSamePoint p q
+pub same_by_test :
+    (p q : Point) (o : Ordering) (b : Bool) → o ≡ compare_points p q → b ≡ (ordering_index o == 1) → IsTrue b ↔ IsSamePoint p q
 same_by_test p q o b order is =
     let test = equal_test o b is in
     (λ h. same_compare_points p q (sym order ∙ test.0 h), λ h. test.1 (order ∙ compare_points_same p q h))

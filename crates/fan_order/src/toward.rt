@@ -31,8 +31,8 @@ pub fn add_sections(
     ensures sections { OnOk result (AddsSectionsOf which edge.now (point_at n.now) out.old out.new) }
     ensures short { OnOk result (All (λ s. IsShort s.dir) out.old → All (λ s. IsShort s.dir) out.new) }
 {
-    add_unless_at(out, n, edge.seg.b, section_ahead(edge, which))?;
-    add_unless_at(out, n, edge.seg.a, section_back(edge, which))
+    add_unless_at(out, n, edge.seg.b, section_toward(edge, which, true))?;
+    add_unless_at(out, n, edge.seg.a, section_toward(edge, which, false))
 }
 
 /// Adds a section unless the node is at the end towards which it leads.
@@ -55,33 +55,32 @@ fn is_at(n: &Node, p: Pt) -> bool
     cmp_nodes(&Node::at_point(p), n) == Ordering::Equal
 }
 
-/// The section of an edge towards its end.
-fn section_ahead(edge: &Edge, which: Which) -> Section
+/// The section of an edge towards its end, or back towards its start.
+fn section_toward(edge: &Edge, which: Which, forward: bool) -> Section
     requires a { IsInLimit edge.now.seg.a }
     requires b { IsInLimit edge.now.seg.b }
     requires apart { ¬ (edge.now.seg.a ≡ edge.now.seg.b) }
-    ensures section { IsSectionOfEdge which edge.now true result }
+    ensures section { IsSectionOfEdge which edge.now forward result }
 {
-    Section {
-        dir: way(edge.seg.a, edge.seg.b),
-        hand: edge.hand,
-        which,
-        area: area(edge.owner),
-    }
-}
-
-/// The section of an edge back towards its start.
-fn section_back(edge: &Edge, which: Which) -> Section
-    requires a { IsInLimit edge.now.seg.a }
-    requires b { IsInLimit edge.now.seg.b }
-    requires apart { ¬ (edge.now.seg.a ≡ edge.now.seg.b) }
-    ensures section { IsSectionOfEdge which edge.now false result }
-{
-    Section {
-        dir: way(edge.seg.b, edge.seg.a),
-        hand: edge.hand.opposite(),
-        which,
-        area: area(edge.owner),
+    let area = area(edge.owner);
+    if forward {
+        let dir = way(edge.seg.a, edge.seg.b);
+        let hand = edge.hand;
+        Section {
+            dir,
+            hand,
+            which,
+            area,
+        }
+    } else {
+        let dir = way(edge.seg.b, edge.seg.a);
+        let hand = edge.hand.opposite();
+        Section {
+            dir,
+            hand,
+            which,
+            area,
+        }
     }
 }
 

@@ -5,8 +5,8 @@ use Rattle.std.proofs.lemmas.List.Elements.{All-head, All-tail, Contains-push, C
 use Rattle.plane_exact.specs.declared.node.Node.{Node}
 use Rattle.ring_faults.specs.declared.link.Link.{Link}
 use Rattle.ring_faults.specs.Links.{IsLinked, Step, IsApartFrom, AreStepsApart, IsStepChain, HasCycle}
-use Rattle.ring_faults.proofs.Ways.{kept_left, path_more}
-use Rattle.ring_faults.proofs.Forests.{IsForest, IsJoined, with_link}
+use Rattle.ring_faults.proofs.Ways.{kept_left, path_more, path_chain}
+use Rattle.ring_faults.proofs.Forests.{IsForest, IsJoined, IsPath, with_link}
 
 -- the new link's node and ring
 abbrev pub IsNew : Node → ℕ → Node → ℕ → Type 0
@@ -74,19 +74,10 @@ cycle_round links c = (
   ),
 )
 
--- and what goes round by other links is a cycle of those
-pub round_chain :
-    (links : List Link) (j : ℕ) (step : Step) (steps : List Step) → IsRound links step.place (step ∷ steps) j
-    → IsStepChain links j step steps
-round_chain links j step [] h = (h.1, subst (λ (z : ℕ). IsLinked links step.node z) h.2.3 h.2.2)
-round_chain links j step (next ∷ others) h =
-    let to = h.2 in
-    let there = sym to.3.0 in (
-      h.1,
-      subst (λ (z : ℕ). IsLinked links step.node z) there to.2,
-      round_chain links j next others
-          (subst (λ (z : ℕ). IsRound links z (next ∷ others) j) there to.3),
-    )
+-- it is a way
+round_path : (links : List Link) (i j : ℕ) (steps : List Step) → IsRound links i steps j → IsPath links i steps j
+round_path links i j [] h = h
+round_path links i j (step ∷ steps) h = let to = h.2 in (h.0, h.1, (to.0, to.2, round_path links to.0 j steps to.3))
 
 -- so a cycle of links that goes round by other links is one of those
 pub round_cycle :
@@ -97,7 +88,9 @@ round_cycle links more c h = record {
   second = c.second;
   others = c.others;
   apart = c.apart;
-  chain = round_chain links c.start.place c.start (c.second ∷ c.others) h;
+  chain =
+      path_chain links c.start.place c.start (c.second ∷ c.others)
+      (round_path links c.start.place c.start.place (c.start ∷ c.second ∷ c.others) h);
 }
 
 module _ (links : List Link) (n : Node) (i : ℕ) (fresh : (j : ℕ) → ¬ IsLinked links n j) where

@@ -15,7 +15,8 @@ use Rattle.point_set.specs.Validity.{ShareSegment}
 
 -- an overlap is a common segment
 pub along_shares : (e f : Seg) (p q : Pt) → IsMeet e f (Along p q) → ShareSegment e f
-along_shares e f p q over = record { a = point_of p; b = point_of q; apart = overlap_ends_apart e f p q over; held = overlap_held e f p q over }
+along_shares e f p q over =
+    record { a = point_of p; b = point_of q; apart = overlap_ends_apart e f p q over; held = overlap_held e f p q over }
 
 -- the points of a common segment are common
 shared_common : (e f : Seg) (s : ShareSegment e f) (r : Point) → IsOnSegment s.a s.b r → IsCommon e f r

@@ -6,7 +6,7 @@ use Rattle.std.specs.List.{All, Contains}
 use Rattle.std.specs.Option.{option_map}
 use Rattle.std.proofs.lemmas.Option.{slice_get-map, slice_get_read, slice_get_within, get_or_from_slice_get}
 use Rattle.std.proofs.lemmas.List.{length-map}
-use Rattle.std.proofs.lemmas.List.Elements.{All-nil, All-head, All-tail, All-append, All-map, All-weaker}
+use Rattle.std.proofs.lemmas.List.Elements.{All-nil, All-cons, All-head, All-tail, All-append, All-map, All-weaker}
 use Rattle.plane_exact.specs.declared.point.Pt.{Pt}
 use Rattle.plane_exact.specs.declared.point.Seg.{Seg}
 use Rattle.point_set.specs.declared.figure.Area.{Area}
@@ -112,12 +112,19 @@ pub sound_part : (part : ℕ) (segs : List Seg) → All IsEdgeSound segs → Are
 sound_part part segs all = All-map (λ (edge : PartEdge). IsEdgeSound edge.seg) (part_edge part) segs all
 
 -- of several rings, each a part
-pub sound_rings : (first : ℕ) (rings : List (List Pt)) → All IsRingShaped rings → AreEdgesSound (edges_of_parts first (map edges_of rings))
+sound_rings : (first : ℕ) (rings : List (List Pt)) → All IsRingShaped rings → AreEdgesSound (edges_of_parts first (map edges_of rings))
 sound_rings first [] all = All-nil (λ (edge : PartEdge). IsEdgeSound edge.seg)
 sound_rings first (ring ∷ rings) all =
     All-append (λ (edge : PartEdge). IsEdgeSound edge.seg) (of_part first (edges_of ring)) (edges_of_parts (first + 1) (map edges_of rings))
     (sound_part first (edges_of ring) (sound_ring ring (All-head IsRingShaped ring rings all)))
     (sound_rings (first + 1) rings (All-tail IsRingShaped ring rings all))
+
+-- of an area's rings
+pub sound_by_ring : (area : Area) (edges : List PartEdge) → edges ≡ edges_of_parts 0 (map edges_of (rings_of area)) → IsAreaShaped area
+    → AreEdgesSound edges
+sound_by_ring area edges is shaped =
+    subst AreEdgesSound (sym is)
+    (sound_rings 0 (rings_of area) (All-cons IsRingShaped area.shell area.holes shaped.shell shaped.holes))
 
 -- ---- how many edges there are
 -- as many as those of the rings together
@@ -133,9 +140,9 @@ count_parts first (ring ∷ rings) =
     )
 
 -- so there are few where an area has few positions
-pub few_by_ring : (area : Area) → IsAreaShaped area → positions_of_area area ≤ 1048576
-    → length (edges_of_parts 0 (map edges_of (rings_of area))) ≤ 1048576
-few_by_ring area shaped few = omega (arith, few_area_edges area shaped few, count_parts 0 (rings_of area))
+pub few_by_ring : (area : Area) (edges : List PartEdge) → edges ≡ edges_of_parts 0 (map edges_of (rings_of area)) → IsAreaShaped area
+    → positions_of_area area ≤ 1048576 → length edges ≤ 1048576
+few_by_ring area edges is shaped few = omega (arith, ap length is, few_area_edges area shaped few, count_parts 0 (rings_of area))
 
 -- and where a ring does
 pub few_of_ring : (ring : List Pt) → IsRingShaped ring → length ring ≤ 1048576 → length (of_part 0 (edges_of ring)) ≤ 1048576

@@ -30,6 +30,12 @@ pub record PartsShareSegment (parts : List (List Seg)) : Type 0 where
   pub other_is : IsAtPlace parts j other
   pub share : EdgesShareSegment one other
 
+-- two parts whose edges have one
+parts_at : {parts : List (List Seg)} {i j : ℕ} {one other : List Seg} → i < j → IsAtPlace parts i one → IsAtPlace parts j other
+    → EdgesShareSegment one other → PartsShareSegment parts
+parts_at earlier one_is other_is share =
+    record { i = _; j = _; earlier = earlier; one = _; other = _; one_is = one_is; other_is = other_is; share = share }
+
 -- edges that stand at places of the row
 share_at : (parts : List (List Seg)) (e f : Seg) (i j : ℕ) → i < j → ShareSegment e f
     → SomeItem (λ (edge : PartEdge). edge ≡ part_edge i e) (edges_of_parts 0 parts)
@@ -56,25 +62,9 @@ parts_share parts = (
       let c = h.clash_at in
       let one = comes_from_part parts 0 h.i c.e c.e_is in
       let other = comes_from_part parts 0 h.j c.f c.f_is in
-      record {
-        i = one.number;
-        j = other.number;
-        earlier = let less = c.earlier in let a = one.part_is in let b = other.part_is in omega (arith, less, a, b);
-        one = one.segs;
-        other = other.segs;
-        one_is = one.segs_is;
-        other_is = other.segs_is;
-        share = record {
-          i = one.place;
-          j = other.place;
-          e = c.e.seg;
-          f = c.f.seg;
-          e_is = one.seg_is;
-          f_is = other.seg_is;
-          share =
-              c.share;
-        };
-      },
+      let less = c.earlier in let a = one.part_is in let b = other.part_is in
+      parts_at (omega (arith, less, a, b)) one.segs_is other.segs_is
+      (record { i = one.place; j = other.place; e = c.e.seg; f = c.f.seg; e_is = one.seg_is; f_is = other.seg_is; share = c.share }),
   λ h.
       let s = h.share in
       share_at parts s.e s.f h.i h.j h.earlier s.share
@@ -108,27 +98,9 @@ rings_as_parts area = (
       let one = ring_at (rings_of area) h.i h.one h.one_is in
       let other = ring_at (rings_of area) h.j h.other h.other_is in
       let Shares : List Seg → List Seg → Type 0 = λ xs ys. EdgesShareSegment xs ys in
-      record {
-        i = h.i;
-        j = h.j;
-        earlier = h.earlier;
-        one = one.ring;
-        other = other.ring;
-        one_is = one.ring_is;
-        other_is = other.ring_is;
-        share = subst₂ Shares (sym one.edges_is) (sym other.edges_is) h.share;
-      },
-  λ h.
-      record {
-        i = h.i;
-        j = h.j;
-        earlier = h.earlier;
-        one = edges_of h.one;
-        other = edges_of h.other;
-        one_is = edges_at (rings_of area) h.i h.one h.one_is;
-        other_is = edges_at (rings_of area) h.j h.other h.other_is;
-        share = h.share;
-      },
+      let share = subst₂ Shares (sym one.edges_is) (sym other.edges_is) h.share in
+      record { i = _; j = _; earlier = h.earlier; one = _; other = _; one_is = one.ring_is; other_is = other.ring_is; share = share },
+  λ h. parts_at h.earlier (edges_at (rings_of area) h.i h.one h.one_is) (edges_at (rings_of area) h.j h.other h.other_is) h.share,
 )
 
 -- so two edges of two rings clash exactly where rings of the area have a common segment

@@ -242,15 +242,6 @@ pub unshared_parts :
     (edges : List PartEdge) → ¬ SomeClash Sharing edges → (e f : PartEdge) → Contains edges e → (place : ℕ) → IsAtPlace edges place f
     → f.part < e.part → ¬ ShareSegment e.seg f.seg
 unshared_parts edges none e f there place f_is less share =
-    none (record {
-      i = place;
-      j = there.0;
-      clash_at = record {
-        e = f;
-        f = e;
-        e_is = f_is;
-        f_is = contained_at edges e there;
-        earlier = less;
-        share = share_flipped e.seg f.seg share;
-      };
-    })
+    let e_is = contained_at edges e there in
+    let flipped = share_flipped e.seg f.seg share in
+    none (record { i = place; j = there.0; clash_at = record { e = f; f = e; e_is = f_is; f_is = e_is; earlier = less; share = flipped } })

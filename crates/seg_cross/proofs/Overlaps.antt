@@ -102,7 +102,9 @@ abbrev pub IsLater : Pt → Pt → Pt → Type 0
 IsLater p q high = IsByOrder p q q p high
 
 -- what holds of x and of y, each where it is taken, holds of z
-chosen_has : (P : Pt → Type 0) (p q x y z : Pt) → IsByOrder p q x y z → (IsBefore (point_of p) (point_of q) → P x) → (¬ IsBefore (point_of p) (point_of q) → P y) → P z
+chosen_has :
+    (P : Pt → Type 0) (p q x y z : Pt) → IsByOrder p q x y z → (IsBefore (point_of p) (point_of q) → P x)
+    → (¬ IsBefore (point_of p) (point_of q) → P y) → P z
 chosen_has P p q x y z e hx hy = go (decide_before (point_of p) (point_of q))
   where
     go : IsBefore (point_of p) (point_of q) ⊎ (¬ IsBefore (point_of p) (point_of q)) → P z
@@ -140,7 +142,9 @@ pub record AreEnds (s t : Seg) (s_low s_high t_low t_high low high : Pt) : Type 
   pub ends : IsEarlier s_high t_high high
 
 -- what holds of all ends holds of them
-pub ends_have : (P : Pt → Type 0) (s t : Seg) (s_low s_high t_low t_high low high : Pt) → AreEnds s t s_low s_high t_low t_high low high → P s.a → P s.b → P t.a → P t.b → P low × P high
+pub ends_have :
+    (P : Pt → Type 0) (s t : Seg) (s_low s_high t_low t_high low high : Pt) → AreEnds s t s_low s_high t_low t_high low high
+    → P s.a → P s.b → P t.a → P t.b → P low × P high
 ends_have P s t s_low s_high t_low t_high low high e s_a s_b t_a t_b = (
   later_has P s_low t_low low e.begins (earlier_has P s.a s.b s_low e.s_begins s_a s_b) (earlier_has P t.a t.b t_low e.t_begins t_a t_b),
   earlier_has P s_high t_high high e.ends (later_has P s.a s.b s_high e.s_ends s_a s_b) (later_has P t.a t.b t_high e.t_ends t_a t_b),
@@ -166,7 +170,8 @@ line_mix a b c d p hc hd on =
     zero_factor m.times (turn a b p) (pos_nonzero m.some) (turn-mix c d p on.s on.t m a b ∙ (λ i. on.s *ℤ hc i +ℤ on.t *ℤ hd i) ∙ (λ i. *ℤ-zero on.s i +ℤ *ℤ-zero on.t i))
 
 -- ---- two segments of one line, and what lies between the later beginning and the earlier end
-module _ (s t : Seg) (s_low s_high t_low t_high low high : Pt) (e : AreEnds s t s_low s_high t_low t_high low high) (s_apart : s.a ≢ s.b) (t_apart : t.a ≢ t.b) (line : AreOnOneLine s t) where
+module _ (s t : Seg) (s_low s_high t_low t_high low high : Pt) (e : AreEnds s t s_low s_high t_low t_high low high)
+    (s_apart : s.a ≢ s.b) (t_apart : t.a ≢ t.b) (line : AreOnOneLine s t) where
   abbrev on_line : Pt → Type 0
   on_line p = turn (point_of s.a) (point_of s.b) (point_of p) ≡ pos 0
 
@@ -203,8 +208,10 @@ module _ (s t : Seg) (s_low s_high t_low t_high low high : Pt) (e : AreEnds s t 
   pub range_of : (p : Point) → IsCommon s t p → AtMost (point_of low) p × AtMost p (point_of high)
   range_of p both =
       let first = on_segment-AtMost (point_of s_low) (point_of s_high) p first_ordered.ahead (first_ordered.onto p both.first) in
-      let second = on_segment-AtMost (point_of t_low) (point_of t_high) p second_ordered.ahead (second_ordered.onto p both.second) in
-      (later_has (λ (z : Pt). AtMost (point_of z) p) s_low t_low low e.begins first.0 second.0, earlier_has (λ (z : Pt). AtMost p (point_of z)) s_high t_high high e.ends first.1 second.1)
+      let second = on_segment-AtMost (point_of t_low) (point_of t_high) p second_ordered.ahead (second_ordered.onto p both.second) in (
+        later_has (λ (z : Pt). AtMost (point_of z) p) s_low t_low low e.begins first.0 second.0,
+        earlier_has (λ (z : Pt). AtMost p (point_of z)) s_high t_high high e.ends first.1 second.1,
+      )
 
   pub common_from : (p : Point) → turn (point_of s.a) (point_of s.b) p ≡ pos 0 → AtMost (point_of low) p → AtMost p (point_of high) → IsCommon s t p
   common_from p on below above =
@@ -224,8 +231,10 @@ module _ (s t : Seg) (s_low s_high t_low t_high low high : Pt) (e : AreEnds s t 
 
   pub overlap_at : low ≡ high → IsOnlyCommon s t (point_of low)
   overlap_at same = record {
-    common = common_from (point_of low) low_line (AtMost-refl (point_of low)) (subst (λ (z : Pt). AtMost (point_of low) (point_of z)) same (AtMost-refl (point_of low)));
-    only = λ p both. same_from_AtMost p (point_of low) (subst (λ (z : Pt). AtMost p (point_of z)) (sym same) (range_of p both).1) (range_of p both).0;
+    common = common_from (point_of low) low_line (AtMost-refl (point_of low))
+        (subst (λ (z : Pt). AtMost (point_of low) (point_of z)) same (AtMost-refl (point_of low)));
+    only = λ p both. same_from_AtMost p (point_of low)
+        (subst (λ (z : Pt). AtMost p (point_of z)) (sym same) (range_of p both).1) (range_of p both).0;
   }
 
   pub overlap_apart : IsBefore (point_of high) (point_of low) → (p : Point) → ¬ IsCommon s t p

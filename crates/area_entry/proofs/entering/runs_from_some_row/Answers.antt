@@ -15,4 +15,5 @@ pub loop-row-preserved : goal.loop-row-preserved
 loop-row-preserved c = λ area clean are_rows unshared.
     none_found c.args.rows.now (c.as_slice-row-items.ensures.items ∙ c.rows.ensures.rows) c.loop-row.row-index _ c.loop-row-test.true
     (SomeRunsOnFrom c.args.ring.now area c.args.part) c.in_ok-some_runs_on_from.field-0
-    (λ at. c.in_ok-some_runs_on_from.ensures.runs area clean are_rows unshared c.loop-row.row-index at) c.if-branch.false (c.loop-row.invariant area clean are_rows unshared)
+    (λ at. c.in_ok-some_runs_on_from.ensures.runs area clean are_rows unshared c.loop-row.row-index at) c.if-branch.false
+    (c.loop-row.invariant area clean are_rows unshared)

@@ -14,4 +14,5 @@ pub loop-place-preserved : goal.loop-place-preserved
 loop-place-preserved c = λ area clean are_rows unshared.
     none_found c.args.places.now c.as_slice-place-items.ensures.items c.loop-place.place-index _ c.loop-place-test.true
     (RunsOnFromRow c.args.edge.now.seg c.args.rows.now area c.args.part) c.in_ok-runs_on_from_row.field-0
-    (λ _. c.in_ok-runs_on_from_row.ensures.runs area clean are_rows unshared) c.if-branch.false (c.loop-place.invariant area clean are_rows unshared)
+    (λ _. c.in_ok-runs_on_from_row.ensures.runs area clean are_rows unshared) c.if-branch.false
+    (c.loop-place.invariant area clean are_rows unshared)

@@ -14,4 +14,5 @@ pub loop-place-preserved : goal.loop-place-preserved
 loop-place-preserved c = λ area clean are_rows unshared at is.
     none_found c.args.places.now c.as_slice-place-items.ensures.items c.loop-place.place-index _ c.loop-place-test.true
     (RunsOnAtPlace c.args.ring.now c.args.row.now.seg area c.args.part) c.in_ok-runs_on_at_place.field-0
-    (λ _. c.in_ok-runs_on_at_place.ensures.runs area clean are_rows unshared at is) c.if-branch.false (c.loop-place.invariant area clean are_rows unshared at is)
+    (λ _. c.in_ok-runs_on_at_place.ensures.runs area clean are_rows unshared at is) c.if-branch.false
+    (c.loop-place.invariant area clean are_rows unshared at is)

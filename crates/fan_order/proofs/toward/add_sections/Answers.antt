@@ -13,8 +13,8 @@ both_on_ok (Err e) f p q = tt
 first : (c : goal.After-add_unless_at-2)
     → HasGrown c.args.which c.args.edge.now (point_at c.args.n.now) true c.args.out.now c.add_unless_at.new.out
 first c =
-    grown c.args.which c.args.edge.now (point_at c.args.n.now) true c.args.out.now c.add_unless_at.new.out c.section_ahead.result
-    c.section_ahead.ensures.section c.in_ok-add_unless_at.ensures.here c.in_ok-add_unless_at.ensures.away
+    grown c.args.which c.args.edge.now (point_at c.args.n.now) true c.args.out.now c.add_unless_at.new.out c.section_toward.result
+    c.section_toward.ensures.section c.in_ok-add_unless_at.ensures.here c.in_ok-add_unless_at.ensures.away
 
 abbrev IsSecond : goal.After-add_unless_at-2 → Type 0
 IsSecond c = HasGrown c.args.which c.args.edge.now (point_at c.args.n.now) false c.add_unless_at.new.out c.add_unless_at-2.new.out
@@ -24,7 +24,7 @@ second c =
     both_on_ok c.add_unless_at-2.result
     (λ here away.
     grown c.args.which c.args.edge.now (point_at c.args.n.now) false c.add_unless_at.new.out c.add_unless_at-2.new.out
-    c.section_back.result c.section_back.ensures.section here away)
+    c.section_toward-2.result c.section_toward-2.ensures.section here away)
     c.add_unless_at-2.ensures.here c.add_unless_at-2.ensures.away
 
 pub returns : goal.returns

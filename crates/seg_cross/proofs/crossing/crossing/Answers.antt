@@ -14,7 +14,9 @@ pub overflow_add-from : goal.overflow_add-from
 overflow_add-from c = fits w128 (weights _ _ c.args.first c.args.second c.from.ensures c.from-2.ensures c.requires.first_size c.requires.second_size) refl
 
 -- the mean of two coordinates under the weights is a fraction over their sum
-fraction : (c : After-from-2) (m a b : ℤ) → m ≡ narrow c.args.first *ℤ narrow a +ℤ narrow c.args.second *ℤ narrow b → unsigned_abs a ≤ limit → unsigned_abs b ≤ limit → IsFraction (wide m) (wide (wide c.from.result +ℤ wide c.from-2.result))
+fraction :
+    (c : After-from-2) (m a b : ℤ) → m ≡ narrow c.args.first *ℤ narrow a +ℤ narrow c.args.second *ℤ narrow b
+    → unsigned_abs a ≤ limit → unsigned_abs b ≤ limit → IsFraction (wide m) (wide (wide c.from.result +ℤ wide c.from-2.result))
 fraction c m a b is a_size b_size =
     let f = c.args.first in
     let s = c.args.second in

@@ -8,7 +8,9 @@ use Rattle.seg_cross.proofs.overlap.overlap.Goals as goal
 use Rattle.seg_cross.proofs.overlap.overlap.Goals.{After-earlier-high}
 
 -- the later beginning and the earlier end
-ends : (c : After-earlier-high) → AreEnds c.args.s c.args.t c.earlier.result c.later.result c.earlier-2.result c.later-2.result c.later-low.result c.earlier-high.result
+ends :
+    (c : After-earlier-high)
+    → AreEnds c.args.s c.args.t c.earlier.result c.later.result c.earlier-2.result c.later-2.result c.later-low.result c.earlier-high.result
 ends c = record {
   s_begins = record { first = c.earlier.ensures.first; second = c.earlier.ensures.second };
   s_ends = record { first = c.later.ensures.first; second = c.later.ensures.second };

@@ -1,9 +1,14 @@
-use Rattle.std.proofs.Common.{◌≡◌, ◌∙◌, ◌<◌, Bool, ◌||◌, ap, length, get_or, List, arith}
-use Rattle.plane_exact.specs.declared.point.Pt.{Pt}
+use Rattle.std.proofs.Common.{◌≡◌, ◌∙◌, Bool, ◌||◌, ap, length, arith}
 use Rattle.point_set.specs.Lines.{is_at_some, is_at_still_line}
 use Rattle.point_set.specs.declared.figure.Figure.{Figure}
 use Rattle.bound_rule.proofs.AtSpots.{one_still_more, all_spots}
+use Rattle.bound_rule.proofs.Items.{item_there}
 use Rattle.bound_rule.proofs.spots.Spots.build.Goals as goal
+use Rattle.bound_rule.proofs.spots.Spots.build.Goals.{After-as_slice-line-items}
+
+-- the lines that are read are those of the figure
+lines_read : (c : After-as_slice-line-items) → c.as_slice-line-items.result.now ≡ c.args.v.now.lines
+lines_read c = c.as_slice-line-items.ensures.items ∙ ap (λ (f : Figure). f.lines) c.figure-figure.ensures.same
 
 pub loop-line-init : goal.loop-line-init
 loop-line-init c = λ p.
@@ -12,18 +17,12 @@ loop-line-init c = λ p.
 
 pub loop-line-preserved : goal.loop-line-preserved
 loop-line-preserved c =
-    let f = c.args.v.now in
-    let place = c.loop-line.line-index in
-    let line = c.line-item.result in
-    let same : c.as_slice-line-items.result.now ≡ f.lines =
-    c.as_slice-line-items.ensures.items ∙ ap (λ (g : Figure). g.lines) c.figure-figure.ensures.same in
-    let below : place < length f.lines = omega (arith, ap length same) in
-    let here = c.line-item.is ∙ ap (λ (items : List (List Pt)). get_or items place line) same in
-    one_still_more f place line c.loop-line.spots c.add_line.new.self below here c.loop-line.invariant c.in_ok-add_line.ensures.added
+    let same = lines_read (goal.at.loop-line-preserved c).After-as_slice-line-items in
+    let there = item_there _ c.args.v.now.lines _ same c.loop-line-test.true c.line-item.result c.line-item.is in
+    one_still_more c.args.v.now _ _ c.loop-line.spots c.add_line.new.self there.0 there.1 c.loop-line.invariant
+    c.in_ok-add_line.ensures.added
 
 pub returns : goal.returns
 returns c =
-    let f = c.args.v.now in
-    let same : c.as_slice-line-items.result.now ≡ f.lines =
-    c.as_slice-line-items.ensures.items ∙ ap (λ (g : Figure). g.lines) c.figure-figure.ensures.same in
-    record { spots = all_spots f c.loop-line.line-index c.loop-line.spots (omega (arith, ap length same)) c.loop-line.invariant }
+    let same = lines_read (goal.at.returns c).After-as_slice-line-items in
+    record { spots = all_spots c.args.v.now c.loop-line.line-index c.loop-line.spots (omega (arith, ap length same)) c.loop-line.invariant }
