@@ -3,31 +3,23 @@ use plane_exact::{Count, NoMemory, PlaceList, Pt, Seg, SegList, Window};
 use std::alloc::Global;
 use std::test::*;
 
-/// The four edges of the square with the corners (0, 0) and (4, 4), in order.
-const SQUARE: [Seg; 4] = [
-    Seg {
-        a: Pt { x: 0, y: 0 },
-        b: Pt { x: 4, y: 0 },
-    },
-    Seg {
-        a: Pt { x: 4, y: 0 },
-        b: Pt { x: 4, y: 4 },
-    },
-    Seg {
-        a: Pt { x: 4, y: 4 },
-        b: Pt { x: 0, y: 4 },
-    },
-    Seg {
-        a: Pt { x: 0, y: 4 },
-        b: Pt { x: 0, y: 0 },
-    },
+/// The corners of a square in order, and the first one again.
+const SQUARE: [Pt; 5] = [
+    Pt { x: 0, y: 0 },
+    Pt { x: 4, y: 0 },
+    Pt { x: 4, y: 4 },
+    Pt { x: 0, y: 4 },
+    Pt { x: 0, y: 0 },
 ];
 
-/// A list of the segments in order.
-fn list_of(alloc: Global, segs: &[Seg]) -> Result<SegList, NoMemory> {
+/// The segments of the way through the positions, in order.
+fn list_of(alloc: Global, way: &[Pt]) -> Result<SegList, NoMemory> {
     let mut list = SegList::new(alloc);
-    for seg in segs {
-        list.push(*seg)?;
+    for i in 1..way.len() {
+        list.push(Seg {
+            a: way[i - 1],
+            b: way[i],
+        })?;
     }
     Ok(list)
 }
@@ -68,7 +60,7 @@ fn lists_differ_where_the_shorter_ends(rt: HostRuntime) -> Result<(), Fail> {
     assert_eq!(rt; segs.len(), 4);
     let index = EdgeIndex::build(rt.alloc(), segs)?;
     let same = list_of(rt.alloc(), &SQUARE)?;
-    let shorter = list_of(rt.alloc(), &SQUARE[..3])?;
+    let shorter = list_of(rt.alloc(), &SQUARE[..4])?;
     assert_eq!(rt; index.differs_at(&same), None);
     assert_eq!(rt; index.differs_at(&shorter), Some(3));
     Ok(())
