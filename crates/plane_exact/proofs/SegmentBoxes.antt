@@ -27,22 +27,19 @@ in_order m n x w hw h low high =
     let both = between m n x w hw (<ℤ_weaken h) low high in
     (omega (arith, linear, h, *ℤ_one m, *ℤ_one n), omega (arith, linear, both.0, *ℤ_one x), omega (arith, linear, both.1, *ℤ_one x))
 
--- the ends' abscissas in order, and not the same
-by_abscissas :
-    (a b : Pt) (p : Point) → a.x <ℤ b.x → turn (point_of a) (point_of b) p ≡ pos 0 → (int_min a.x b.x *ℤ p.w) ≤ℤ p.x
-    → p.x ≤ℤ (int_max a.x b.x *ℤ p.w) → IsOnSegment (point_of a) (point_of b) p
-unfolding shift
-by_abscissas a b p h line low high =
-    let steps = in_order a.x b.x p.x p.w p.heavy h low high in
-    on_segment_by_shift (point_of a) (point_of b) p line steps.0 steps.1 steps.2
+-- the ends' abscissas in order, or their heights, and not the same
+module _ (a b : Pt) (p : Point) (line : turn (point_of a) (point_of b) p ≡ pos 0) where
+  by_abscissas : a.x <ℤ b.x → (int_min a.x b.x *ℤ p.w) ≤ℤ p.x → p.x ≤ℤ (int_max a.x b.x *ℤ p.w) → IsOnSegment (point_of a) (point_of b) p
+  unfolding shift
+  by_abscissas h low high =
+      let steps = in_order a.x b.x p.x p.w p.heavy h low high in
+      on_segment_by_shift (point_of a) (point_of b) p line steps.0 steps.1 steps.2
 
-by_heights :
-    (a b : Pt) (p : Point) → a.y <ℤ b.y → turn (point_of a) (point_of b) p ≡ pos 0 → (int_min a.y b.y *ℤ p.w) ≤ℤ p.y
-    → p.y ≤ℤ (int_max a.y b.y *ℤ p.w) → IsOnSegment (point_of a) (point_of b) p
-unfolding rise
-by_heights a b p h line low high =
-    let steps = in_order a.y b.y p.y p.w p.heavy h low high in
-    on_segment_by_rise (point_of a) (point_of b) p line steps.0 steps.1 steps.2
+  by_heights : a.y <ℤ b.y → (int_min a.y b.y *ℤ p.w) ≤ℤ p.y → p.y ≤ℤ (int_max a.y b.y *ℤ p.w) → IsOnSegment (point_of a) (point_of b) p
+  unfolding rise
+  by_heights h low high =
+      let steps = in_order a.y b.y p.y p.w p.heavy h low high in
+      on_segment_by_rise (point_of a) (point_of b) p line steps.0 steps.1 steps.2
 
 swapped : (a b : Pt) (p : Point) → turn (point_of a) (point_of b) p ≡ pos 0 → turn (point_of b) (point_of a) p ≡ pos 0
 swapped a b p line = omega (arith, linear, turn_swap (point_of a) (point_of b) p, line)
@@ -69,13 +66,13 @@ pub on_segment_in_box :
     (a b : Pt) (p : Point) → turn (point_of a) (point_of b) p ≡ pos 0 → (int_min a.x b.x *ℤ p.w) ≤ℤ p.x → p.x ≤ℤ (int_max a.x b.x *ℤ p.w)
     → (int_min a.y b.y *ℤ p.w) ≤ℤ p.y → p.y ≤ℤ (int_max a.y b.y *ℤ p.w) → IsOnSegment (point_of a) (point_of b) p
 on_segment_in_box a b p line lx hx ly hy = by_order a.x b.x
-    (λ h. by_abscissas a b p h line lx hx)
+    (λ h. by_abscissas a b p line h lx hx)
     (λ e. by_order a.y b.y
-    (λ h. by_heights a b p h line ly hy)
+    (λ h. by_heights a b p line h ly hy)
     (λ f. at_both a b p e f lx hx ly hy)
     (λ h. segment_flip
-    (by_heights b a p h (swapped a b p line) (subst (λ (z : ℤ). (z *ℤ p.w) ≤ℤ p.y) (sym (int_min-comm a.y b.y)) ly)
+    (by_heights b a p (swapped a b p line) h (subst (λ (z : ℤ). (z *ℤ p.w) ≤ℤ p.y) (sym (int_min-comm a.y b.y)) ly)
     (subst (λ (z : ℤ). p.y ≤ℤ (z *ℤ p.w)) (sym (int_max-comm a.y b.y)) hy))))
     (λ h. segment_flip
-    (by_abscissas b a p h (swapped a b p line) (subst (λ (z : ℤ). (z *ℤ p.w) ≤ℤ p.x) (sym (int_min-comm a.x b.x)) lx)
+    (by_abscissas b a p (swapped a b p line) h (subst (λ (z : ℤ). (z *ℤ p.w) ≤ℤ p.x) (sym (int_min-comm a.x b.x)) lx)
     (subst (λ (z : ℤ). p.x ≤ℤ (z *ℤ p.w)) (sym (int_max-comm a.x b.x)) hx)))

@@ -20,7 +20,8 @@ use Rattle.point_set.specs.declared.edge.Hand.TheVariants as hand
 use Rattle.point_set.specs.Rings.{is_same_position, edge_before, edges_after, edges_of, is_on_edge, is_on_edges, crosses, differ, is_odd}
 use Rattle.point_set.specs.Rings.{is_inside}
 use Rattle.point_set.specs.Validity.{IsAtPlace}
-use Rattle.point_set.specs.Sides.{slope, HoldsBeside, IsInsideHand}
+use Rattle.point_set.specs.declared.edge.Hand.{Hand}
+use Rattle.point_set.specs.Sides.{slope, PointsTo, other_hand, HoldsBeside, IsInsideHand}
 use Rattle.ring_laws.proofs.Parity.OneEdge.{crosses_swap}
 use Rattle.ring_laws.proofs.Parity.Tests.{differ_assoc, differ_comm, differ_none}
 use Rattle.figure_laws.proofs.Lists.Places.{some_same}

@@ -53,9 +53,10 @@ steps_of_mix k s t a v b w p z h e =
     let vs = k ∷ s ∷ t ∷ a ∷ v ∷ b ∷ w ∷ p ∷ z ∷ [] in
     let whole = var 5 ⊗ var 4 ⊖ var 3 ⊗ var 6 in
     let place = same {vs = vs} (var 0 ⊗ var 7) (var 1 ⊗ var 3 ⊕ var 2 ⊗ var 5) h in
-    let weight = same {vs = vs} (var 0 ⊗ var 8) (var 1 ⊗ var 4 ⊕ var 2 ⊗ var 6) e in
-    (same_from (var 0 ⊗ (var 7 ⊗ var 4 ⊖ var 3 ⊗ var 8)) (var 2 ⊗ whole) vs (scaled (var 4) place ⊞ scaled (minus (var 3)) weight) refl,
-    same_from (var 0 ⊗ (var 5 ⊗ var 8 ⊖ var 7 ⊗ var 6)) (var 1 ⊗ whole) vs (scaled (minus (var 6)) place ⊞ scaled (var 5) weight) refl)
+    let weight = same {vs = vs} (var 0 ⊗ var 8) (var 1 ⊗ var 4 ⊕ var 2 ⊗ var 6) e in (
+      same_from (var 0 ⊗ (var 7 ⊗ var 4 ⊖ var 3 ⊗ var 8)) (var 2 ⊗ whole) vs (scaled (var 4) place ⊞ scaled (minus (var 3)) weight) refl,
+      same_from (var 0 ⊗ (var 5 ⊗ var 8 ⊖ var 7 ⊗ var 6)) (var 1 ⊗ whole) vs (scaled (minus (var 6)) place ⊞ scaled (var 5) weight) refl,
+    )
 
 pub mix_shift_start : {a b p : Point} {s t : ℤ} (m : IsMix a b p s t) → m.times *ℤ shift a p ≡ t *ℤ shift a b
 unfolding shift
