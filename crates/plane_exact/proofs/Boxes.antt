@@ -70,6 +70,16 @@ least_of_ends box a b lx ly hx hy = record {
       top = omega (arith, ints, clamps, h.top, k.top);
     }
 
+-- a position is in a box by its coordinates
+position_in_window :
+    (box : Window) (q : Pt) → box.low_x ≤ℤ q.x → q.x ≤ℤ box.high_x → box.low_y ≤ℤ q.y → q.y ≤ℤ box.high_y → IsInWindow box (point_of q)
+position_in_window box q left right bottom top = record {
+  left = omega (arith, ints, left);
+  right = omega (arith, ints, right);
+  bottom = omega (arith, ints, bottom);
+  top = omega (arith, ints, top);
+}
+
 -- the greatest low sides and the least high sides are the sides of what two boxes have in common
 pub common_point :
     (box other : Window) → int_max box.low_x other.low_x ≤ℤ int_min box.high_x other.high_x
@@ -77,21 +87,11 @@ pub common_point :
 common_point box other hx hy = record {
   point = point_of corner;
   here =
-      record {
-        left = omega (arith, ints, clamps);
-        right = omega (arith, ints, clamps, hx);
-        bottom = omega
-            (arith, ints, clamps);
-        top = omega (arith, ints, clamps, hy);
-      };
+      position_in_window box corner (omega (arith, ints, clamps)) (omega (arith, ints, clamps, hx)) (omega (arith, ints, clamps))
+      (omega (arith, ints, clamps, hy));
   there =
-      record {
-        left = omega (arith, ints, clamps);
-        right = omega (arith, ints, clamps, hx);
-        bottom = omega
-            (arith, ints, clamps);
-        top = omega (arith, ints, clamps, hy);
-      };
+      position_in_window other corner (omega (arith, ints, clamps)) (omega (arith, ints, clamps, hx)) (omega (arith, ints, clamps))
+      (omega (arith, ints, clamps, hy));
 }
   where
     corner : Pt

@@ -24,18 +24,10 @@ turn-point a b p =
     (turn_p (var 0) (var 1) (num (pos 1)) (var 2) (var 3) (num (pos 1)) (var 4) (var 5) (var 6))
     (a.x ∷ a.y ∷ b.x ∷ b.y ∷ p.x ∷ p.y ∷ p.w ∷ []) refl
 
--- ---- positions: their distances to a point, and both weights 1
-pub shift-position : (a : Pt) (p : Point) → shift (point_of a) p ≡ p.x -ℤ a.x *ℤ p.w
-unfolding shift
-shift-position a p = identity (var 0 ⊗ num (pos 1) ⊖ var 1 ⊗ var 2) (var 0 ⊖ var 1 ⊗ var 2) (p.x ∷ a.x ∷ p.w ∷ []) refl
-
+-- ---- positions: the distances of a point to one, and both weights 1
 pub shift-to_position : (p : Point) (b : Pt) → shift p (point_of b) ≡ b.x *ℤ p.w -ℤ p.x
 unfolding shift
 shift-to_position p b = identity (var 1 ⊗ var 2 ⊖ var 0 ⊗ num (pos 1)) (var 1 ⊗ var 2 ⊖ var 0) (p.x ∷ b.x ∷ p.w ∷ []) refl
-
-pub rise-position : (a : Pt) (p : Point) → rise (point_of a) p ≡ p.y -ℤ a.y *ℤ p.w
-unfolding rise
-rise-position a p = identity (var 0 ⊗ num (pos 1) ⊖ var 1 ⊗ var 2) (var 0 ⊖ var 1 ⊗ var 2) (p.y ∷ a.y ∷ p.w ∷ []) refl
 
 pub rise-to_position : (p : Point) (b : Pt) → rise p (point_of b) ≡ b.y *ℤ p.w -ℤ p.y
 unfolding rise

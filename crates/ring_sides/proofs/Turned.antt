@@ -20,7 +20,8 @@ use Rattle.point_set.specs.declared.edge.Hand.TheVariants as hand
 use Rattle.point_set.specs.Rings.{is_same_position, edge_before, edges_after, edges_of, is_on_edge, is_on_edges, crosses, differ, is_odd}
 use Rattle.point_set.specs.Rings.{is_inside}
 use Rattle.point_set.specs.Validity.{IsAtPlace}
-use Rattle.point_set.specs.Sides.{slope, HoldsBeside, IsInsideHand}
+use Rattle.point_set.specs.declared.edge.Hand.{Hand}
+use Rattle.point_set.specs.Sides.{slope, PointsTo, other_hand, HoldsBeside, IsInsideHand}
 use Rattle.ring_laws.proofs.Parity.OneEdge.{crosses_swap}
 use Rattle.ring_laws.proofs.Parity.Tests.{differ_assoc, differ_comm, differ_none}
 use Rattle.figure_laws.proofs.Lists.Places.{some_same}
@@ -160,20 +161,18 @@ slope_flip e d =
     identity ((var 0 ⊖ var 2) ⊗ var 5 ⊖ (var 1 ⊖ var 3) ⊗ var 4) (minus ((var 2 ⊖ var 0) ⊗ var 5 ⊖ (var 3 ⊖ var 1) ⊗ var 4))
     (e.a.x ∷ e.a.y ∷ e.b.x ∷ e.b.y ∷ d.x ∷ d.y ∷ []) refl
 
-beside_left :
-    (ring : List Pt) (b : Bool) (e : Seg) → HoldsBeside (λ q. is_inside q ring ≡ b) e hand.Left
-    → HoldsBeside (λ q. is_inside q (reverse ring) ≡ b) (flipped e) hand.Right
-unfolding flipped
-beside_left ring b e h p between d to =
-    let along = h p (between_flip between) d (omega (arith, linear, slope_flip e d, to)) in
-    record { from = along.from; holds = λ n far q away. turned_inside q ring ∙ along.holds n far q away }
+-- what points to one hand of an edge points to the other hand of the edge turned round
+to_other : (side : Hand) (e : Seg) (d : Direction) → PointsTo (other_hand side) (flipped e) d → PointsTo side e d
+to_other hand.Left e d to = omega (arith, linear, slope_flip e d, to)
+to_other hand.Right e d to = omega (arith, linear, slope_flip e d, to)
+to_other hand.Line e d to = to
 
-beside_right :
-    (ring : List Pt) (b : Bool) (e : Seg) → HoldsBeside (λ q. is_inside q ring ≡ b) e hand.Right
-    → HoldsBeside (λ q. is_inside q (reverse ring) ≡ b) (flipped e) hand.Left
+beside_other :
+    (side : Hand) (ring : List Pt) (b : Bool) (e : Seg) → HoldsBeside (λ q. is_inside q ring ≡ b) e side
+    → HoldsBeside (λ q. is_inside q (reverse ring) ≡ b) (flipped e) (other_hand side)
 unfolding flipped
-beside_right ring b e h p between d to =
-    let along = h p (between_flip between) d (omega (arith, linear, slope_flip e d, to)) in
+beside_other side ring b e h p between d to =
+    let along = h p (between_flip between) d (to_other side e d to) in
     record { from = along.from; holds = λ n far q away. turned_inside q ring ∙ along.holds n far q away }
 
 right_not_line : ¬ (hand.Right ≡ hand.Line)
@@ -185,9 +184,9 @@ turned_hand ring h = record {
   inside = each_at (λ e. HoldsBeside (λ q. is_inside q (reverse ring) ≡ true) e hand.Right) (edges_of (reverse ring))
       (each_turned (λ e. HoldsBeside (λ q. is_inside q (reverse ring) ≡ true) e hand.Right) ring
       (each_from (λ e. HoldsBeside (λ q. is_inside q (reverse ring) ≡ true) (flipped e) hand.Right) (edges_of ring)
-      (λ place e is. beside_left ring true e (h.inside place e is))));
+      (λ place e is. beside_other hand.Left ring true e (h.inside place e is))));
   outside = each_at (λ e. HoldsBeside (λ q. is_inside q (reverse ring) ≡ false) e hand.Left) (edges_of (reverse ring))
       (each_turned (λ e. HoldsBeside (λ q. is_inside q (reverse ring) ≡ false) e hand.Left) ring
       (each_from (λ e. HoldsBeside (λ q. is_inside q (reverse ring) ≡ false) (flipped e) hand.Left) (edges_of ring)
-      (λ place e is. beside_right ring false e (h.outside place e is))));
+      (λ place e is. beside_other hand.Right ring false e (h.outside place e is))));
 }

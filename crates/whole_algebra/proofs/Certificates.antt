@@ -42,15 +42,13 @@ pub record Fact (s : Sense) (p : Poly) (vs : List ℤ) : Type 0 where
 abbrev pub sum_sense : Sense → Sense → Sense
 sum_sense above t = above
 sum_sense not_below above = above
-sum_sense not_below not_below = not_below
-sum_sense not_below nothing = not_below
+sum_sense not_below t = not_below
 sum_sense nothing t = t
 
 abbrev pub product_sense : Sense → Sense → Sense
 product_sense above t = t
-product_sense not_below above = not_below
-product_sense not_below not_below = not_below
 product_sense not_below nothing = nothing
+product_sense not_below t = not_below
 product_sense nothing t = nothing
 
 -- ---- facts

@@ -40,36 +40,28 @@ same_int_cmp a b c d k l hk hl e = by_order a b
     stays h = let p : b -ℤ a ≡ pos 0 = omega (arith, linear, h) in
         zero_factor l (d -ℤ c) (pos_nonzero hl) (sym e ∙ ap (λ z. k *ℤ z) p ∙ *ℤ-zero k)
 
+-- an answer is one of the three only
+Less≢Equal : ¬ (Less ≡ Equal)
+Less≢Equal e = cc
+
+Less≢Greater : ¬ (Less ≡ Greater)
+Less≢Greater e = cc
+
+Equal≢Greater : ¬ (Equal ≡ Greater)
+Equal≢Greater e = cc
+
 -- what an answer says of the two numbers
 pub less_int_cmp : (a b : ℤ) → int_cmp a b ≡ Less → a <ℤ b
-less_int_cmp a b e = by_order a b (λ h. h) (λ h. absurd (clash (sym (int_cmp_equal a b h) ∙ e)))
-    (λ h. absurd (clash' (sym (int_cmp_greater a b h) ∙ e)))
-  where
-    clash : Equal ≡ Less → ⊥
-    clash h = cc
-
-    clash' : Greater ≡ Less → ⊥
-    clash' h = cc
+less_int_cmp a b e = by_order a b (λ h. h) (λ h. absurd (Less≢Equal (sym e ∙ int_cmp_equal a b h)))
+    (λ h. absurd (Less≢Greater (sym e ∙ int_cmp_greater a b h)))
 
 pub greater_int_cmp : (a b : ℤ) → int_cmp a b ≡ Greater → b <ℤ a
-greater_int_cmp a b e = by_order a b (λ h. absurd (clash (sym (int_cmp_less a b h) ∙ e)))
-    (λ h. absurd (clash' (sym (int_cmp_equal a b h) ∙ e))) (λ h. h)
-  where
-    clash : Less ≡ Greater → ⊥
-    clash h = cc
-
-    clash' : Equal ≡ Greater → ⊥
-    clash' h = cc
+greater_int_cmp a b e = by_order a b (λ h. absurd (Less≢Greater (sym (int_cmp_less a b h) ∙ e)))
+    (λ h. absurd (Equal≢Greater (sym (int_cmp_equal a b h) ∙ e))) (λ h. h)
 
 pub equal_int_cmp : (a b : ℤ) → int_cmp a b ≡ Equal → a ≡ b
-equal_int_cmp a b e = by_order a b (λ h. absurd (clash (sym (int_cmp_less a b h) ∙ e))) (λ h. h)
-    (λ h. absurd (clash' (sym (int_cmp_greater a b h) ∙ e)))
-  where
-    clash : Less ≡ Equal → ⊥
-    clash h = cc
-
-    clash' : Greater ≡ Equal → ⊥
-    clash' h = cc
+equal_int_cmp a b e = by_order a b (λ h. absurd (Less≢Equal (sym (int_cmp_less a b h) ∙ e))) (λ h. h)
+    (λ h. absurd (Equal≢Greater (sym e ∙ int_cmp_greater a b h)))
 
 -- ---- one comparison, and another where it leaves the two equal
 pub then_first : (o p r : Ordering) → r ≡ o → ¬ (r ≡ Equal) → r ≡ ordering_then o p
@@ -78,15 +70,15 @@ then_first Equal p r e n = absurd (n e)
 then_first Greater p r e n = e
 
 pub then_second : (o p : Ordering) → o ≡ Equal → ordering_then o p ≡ p
-then_second Less p e = absurd (clash e)
-  where
-    clash : Less ≡ Equal → ⊥
-    clash h = cc
+then_second Less p e = cc
 then_second Equal p e = refl
-then_second Greater p e = absurd (clash e)
-  where
-    clash : Greater ≡ Equal → ⊥
-    clash h = cc
+then_second Greater p e = cc
+
+-- where one after the other leaves two equal, each does
+pub then_gives_equal : (o p : Ordering) → ordering_then o p ≡ Equal → (o ≡ Equal) × (p ≡ Equal)
+then_gives_equal Less p e = cc
+then_gives_equal Equal p e = (refl, e)
+then_gives_equal Greater p e = cc
 
 pub then_less_from : (a b c d : ℤ) → (a <ℤ b) ⊎ ((a ≡ b) × (c <ℤ d)) → ordering_then (int_cmp a b) (int_cmp c d) ≡ Less
 then_less_from a b c d (inl h) = ap (λ o. ordering_then o (int_cmp c d)) (int_cmp_less a b h)
@@ -95,22 +87,12 @@ then_less_from a b c d (inr h) = then_second (int_cmp a b) (int_cmp c d) (int_cm
 pub then_less_gives : (a b c d : ℤ) → ordering_then (int_cmp a b) (int_cmp c d) ≡ Less → (a <ℤ b) ⊎ ((a ≡ b) × (c <ℤ d))
 then_less_gives a b c d e = by_order a b inl
     (λ h. inr (h, less_int_cmp c d (sym (then_second (int_cmp a b) (int_cmp c d) (int_cmp_equal a b h)) ∙ e)))
-    (λ h. absurd (clash (sym (ap (λ o. ordering_then o (int_cmp c d)) (int_cmp_greater a b h)) ∙ e)))
-  where
-    clash : Greater ≡ Less → ⊥
-    clash h = cc
+    (λ h. absurd (Less≢Greater (sym e ∙ ap (λ o. ordering_then o (int_cmp c d)) (int_cmp_greater a b h))))
 
 pub then_equal_from : (a b c d : ℤ) → a ≡ b → c ≡ d → ordering_then (int_cmp a b) (int_cmp c d) ≡ Equal
 then_equal_from a b c d e f = then_second (int_cmp a b) (int_cmp c d) (int_cmp_equal a b e) ∙ int_cmp_equal c d f
 
 pub then_equal_gives : (a b c d : ℤ) → ordering_then (int_cmp a b) (int_cmp c d) ≡ Equal → (a ≡ b) × (c ≡ d)
-then_equal_gives a b c d e = by_order a b
-    (λ h. absurd (clash (sym (ap (λ o. ordering_then o (int_cmp c d)) (int_cmp_less a b h)) ∙ e)))
-    (λ h. (h, equal_int_cmp c d (sym (then_second (int_cmp a b) (int_cmp c d) (int_cmp_equal a b h)) ∙ e)))
-    (λ h. absurd (clash' (sym (ap (λ o. ordering_then o (int_cmp c d)) (int_cmp_greater a b h)) ∙ e)))
-  where
-    clash : Less ≡ Equal → ⊥
-    clash h = cc
-
-    clash' : Greater ≡ Equal → ⊥
-    clash' h = cc
+then_equal_gives a b c d e =
+    let both = then_gives_equal (int_cmp a b) (int_cmp c d) e in
+    (equal_int_cmp a b both.0, equal_int_cmp c d both.1)

@@ -1,10 +1,10 @@
 -- The location of a near point is the germ in its direction.
-use Rattle.std.proofs.Common.{◌≡◌, ℕ, ◌+◌, ◌≤◌, ◌<◌, ℤ, pos, ◌+ℤ◌, ◌*ℤ◌, ◌<ℤ◌, Bool, true, false, ◌||◌, List, [], ◌∷◌, ap, refl, sym, ◌∙◌}
+use Rattle.std.proofs.Common.{◌≡◌, ℕ, ◌+◌, ◌≤◌, ◌<◌, ℤ, ◌+ℤ◌, ◌*ℤ◌, Bool, true, false, ◌||◌, List, [], ◌∷◌, ap, refl, sym, ◌∙◌}
 use Rattle.std.proofs.Common.{arith}
 use Rattle.std.specs.List.{list_any}
 use Rattle.im_matrix.specs.declared.Loc.TheVariants.{Boundary}
 use Rattle.whole_algebra.proofs.Polynomials.{var, ◌⊕◌, ◌⊗◌}
-use Rattle.whole_algebra.proofs.Certificates.{positive, same, same_from, scaled, ◌⊞◌}
+use Rattle.whole_algebra.proofs.Certificates.{same, same_from, scaled, ◌⊞◌}
 use Rattle.whole_algebra.proofs.Signs.{<ℤ_weaken, pos-*-pos, nonneg-*-nonneg}
 use Rattle.plane_laws.proofs.Segments.Mixes.{start_on_segment}
 use Rattle.plane_laws.specs.Plane.{Point, IsOnSegment, rise, shift}

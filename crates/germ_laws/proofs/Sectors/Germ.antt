@@ -109,18 +109,8 @@ left_value rx ry dx dy ex ey i j x y hi hj h across above k l =
 pub over_back : (x y sx sy : ℤ) → (x *ℤ sy) -ℤ (y *ℤ sx) ≡ (neg_ℤ sx *ℤ y) -ℤ (neg_ℤ sy *ℤ x)
 over_back x y sx sy = identity (var 0 ⊗ var 3 ⊖ var 1 ⊗ var 2) (minus (var 2) ⊗ var 1 ⊖ minus (var 3) ⊗ var 0) (x ∷ y ∷ sx ∷ sy ∷ []) refl
 
-right_value : (sx sy dx dy ex ey i j x y : ℤ) → pos 0 ≤ℤ i → pos 0 ≤ℤ j → pos 0 <ℤ (i +ℤ j) → x ≡ (i *ℤ dx) +ℤ (j *ℤ ex)
-    → y ≡ (i *ℤ dy) +ℤ (j *ℤ ey) → pos 0 <ℤ ((dx *ℤ sy) -ℤ (dy *ℤ sx)) → pos 0 <ℤ ((ex *ℤ sy) -ℤ (ey *ℤ sx))
-    → pos 0 <ℤ ((x *ℤ sy) -ℤ (y *ℤ sx))
-right_value sx sy dx dy ex ey i j x y hi hj h across above k l =
-    subst (λ z. pos 0 <ℤ z) (sym (over_back x y sx sy)) (left_value (neg_ℤ sx) (neg_ℤ sy) dx dy ex ey i j x y hi hj h across above
-    (subst (λ z. pos 0 <ℤ z) (over_back dx dy sx sy) k) (subst (λ z. pos 0 <ℤ z) (over_back ex ey sx sy) l))
-
 nothing_left : (a b : ℤ) → ¬ (pos 0 <ℤ ((a *ℤ pos 0) -ℤ (b *ℤ pos 0)))
 nothing_left a b h = impossible_by (a ∷ b ∷ []) (positive (var 0 ⊗ num (pos 0) ⊖ var 1 ⊗ num (pos 0)) h) refl
-
-nothing_right : (a b : ℤ) → ¬ (pos 0 <ℤ ((pos 0 *ℤ a) -ℤ (pos 0 *ℤ b)))
-nothing_right a b h = impossible_by (a ∷ b ∷ []) (positive (num (pos 0) ⊗ var 0 ⊖ num (pos 0) ⊗ var 1) h) refl
 
 left_stays : (r d e : Direction) → pos 0 <ℤ bend_of r d → pos 0 <ℤ bend_of r e → (t : Direction) → IsSum d e t.x t.y → pos 0 <ℤ bend_of r t
 unfolding bend_of
@@ -131,14 +121,26 @@ unfolding bend_of
 left_pointed r d e k l q = nothing_left r.x r.y
     (left_value r.x r.y d.x d.y e.x e.y q.i q.j (pos 0) (pos 0) q.first q.second q.some q.across q.above k l)
 
+-- the direction opposite to r
+turned : (a : ℤ) → neg_ℤ a ≡ pos 0 → a ≡ pos 0
+turned a h = omega (arith, linear, h)
+
+back : Direction → Direction
+back r = record { x = neg_ℤ r.x; y = neg_ℤ r.y; moves = λ z. r.moves (turned r.x z.0, turned r.y z.1) }
+
+-- so the right of s is the left of its opposite
+left_of_back : (s d : Direction) → bend_of d s ≡ bend_of (back s) d
+unfolding bend_of back
+left_of_back s d = over_back d.x d.y s.x s.y
+
+to_left : (s d : Direction) → pos 0 <ℤ bend_of d s → pos 0 <ℤ bend_of (back s) d
+to_left s d = subst (λ z. pos 0 <ℤ z) (left_of_back s d)
+
 right_stays : (s d e : Direction) → pos 0 <ℤ bend_of d s → pos 0 <ℤ bend_of e s → (t : Direction) → IsSum d e t.x t.y → pos 0 <ℤ bend_of t s
-unfolding bend_of
-right_stays s d e k l t q = right_value s.x s.y d.x d.y e.x e.y q.i q.j t.x t.y q.first q.second q.some q.across q.above k l
+right_stays s d e k l t q = subst (λ z. pos 0 <ℤ z) (sym (left_of_back s t)) (left_stays (back s) d e (to_left s d k) (to_left s e l) t q)
 
 right_pointed : (s d e : Direction) → pos 0 <ℤ bend_of d s → pos 0 <ℤ bend_of e s → ArePointed d e
-unfolding bend_of
-right_pointed s d e k l q = nothing_right s.y s.x
-    (right_value s.x s.y d.x d.y e.x e.y q.i q.j (pos 0) (pos 0) q.first q.second q.some q.across q.above k l)
+right_pointed s d e k l = left_pointed (back s) d e (to_left s d k) (to_left s e l)
 
 -- ---- the same way
 -- k of r are l of d, for k and l of at least 0 that aren't both 0
@@ -199,12 +201,6 @@ same_or_opposite r s z = by_sign (dot_of_ways r s) (λ h. inr (λ q. not_ahead (
     not_ahead h q = let k = same_ahead r s q in omega (arith, linear, h, k)
 
 -- ---- the direction opposite to r
-turned : (a : ℤ) → neg_ℤ a ≡ pos 0 → a ≡ pos 0
-turned a h = omega (arith, linear, h)
-
-back : Direction → Direction
-back r = record { x = neg_ℤ r.x; y = neg_ℤ r.y; moves = λ z. r.moves (turned r.x z.0, turned r.y z.1) }
-
 -- no direction between back r and one off r's way points r's way
 back_stays : (r d : Direction) → ¬ PointSameWay r d → (t : Direction) → IsSum d (back r) t.x t.y → ¬ PointSameWay r t
 unfolding back

@@ -1,13 +1,10 @@
 -- A point is interior to the union of areas exactly where it is covered, and along every direction from it the union covers.
-use Rattle.std.proofs.Common.{◌≡◌, ℕ, suc, ◌+◌, ◌≤◌, ℤ, pos, ◌+ℤ◌, ◌*ℤ◌, Bool, true, false, ◌||◌, List, [], ◌∷◌, refl, sym, ◌∙◌, arith}
+use Rattle.std.proofs.Common.{◌≡◌, ℕ, suc, ◌+◌, ◌≤◌, Bool, true, false, ◌||◌, List, [], ◌∷◌, refl, sym, ◌∙◌, arith}
 use Rattle.std.specs.List.{All}
 use Rattle.std.proofs.lemmas.Bool.Decides.{not_from_Decides}
 use Rattle.std.proofs.lemmas.List.Elements.{All-head, All-tail}
-use Rattle.whole_algebra.proofs.Laws.{linear}
-use Rattle.whole_algebra.proofs.Polynomials.{var, num, ◌⊕◌, ◌⊗◌, identity}
 use Rattle.plane_laws.proofs.Points.Same.{Decides-is_same_point}
-use Rattle.plane_laws.proofs.Segments.On.{same_from_steps}
-use Rattle.plane_laws.specs.Plane.{Point, IsSamePoint, rise, shift, is_same_point}
+use Rattle.plane_laws.specs.Plane.{Point, is_same_point}
 use Rattle.plane_laws.specs.Directions.{Direction}
 use Rattle.point_set.specs.declared.figure.Area.{Area}
 use Rattle.point_set.specs.declared.figure.Figure.{Figure}

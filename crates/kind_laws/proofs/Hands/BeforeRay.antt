@@ -1,5 +1,5 @@
 -- The hand of an edge for the sector that ends at it: inside where the hand is Right, outside where it is Left.
-use Rattle.std.proofs.Common.{◌≡◌, ℕ, ◌+◌, ℤ, pos, ◌-ℤ◌, ◌*ℤ◌, neg_ℤ, ◌<ℤ◌, Bool, true, false, refl, arith}
+use Rattle.std.proofs.Common.{◌≡◌, ℕ, ◌+◌, ℤ, pos, ◌-ℤ◌, ◌*ℤ◌, neg_ℤ, ◌<ℤ◌, Bool, true, false, refl, sym, ap, subst, arith}
 use Rattle.std.proofs.Common.{[], ◌∷◌}
 use Rattle.im_matrix.specs.declared.Loc.{Loc}
 use Rattle.im_matrix.specs.declared.Loc.TheVariants.{Interior, Exterior}
@@ -20,13 +20,14 @@ use Rattle.plane_laws.specs.Along.{IsInCone}
 use Rattle.point_set.specs.Location.{edges_of_rings, rings_of}
 use Rattle.point_set.specs.Sectors.{HasNoEdgeWithin}
 use Rattle.point_set.specs.Shape.{IsAreaShaped, IsWellShaped}
-use Rattle.point_set.specs.Sides.{slope}
+use Rattle.point_set.specs.Sides.{slope, other_hand}
+use Rattle.side_laws.proofs.Areas.Hands.{other_twice}
 use Rattle.point_set.specs.Validity.{IsAtPlace, IsOnEdge, IsValid}
 use Rattle.plane_laws.proofs.Near.Away.{away_point}
 use Rattle.side_laws.proofs.Areas.Hands.{area_clean}
 use Rattle.germ_laws.proofs.Sectors.JustRight.{right_turn, right_turn_right}
 use Rattle.germ_laws.proofs.Sectors.BesideRay.{reach, germ_before}
-use Rattle.kind_laws.proofs.Hands.InSector.{left_forward, right_backward, way_bound, alone_on_way}
+use Rattle.kind_laws.proofs.Hands.InSector.{left_forward, right_backward, by_hand, way_bound, alone_on_way}
 
 -- ---- the slope of a direction to the right of the way
 -- the direction straight back; what is to the right of r has its opposite to the left
@@ -68,17 +69,18 @@ left_backward e {v} {r} on c t h =
         less_by (num (pos 0)) (var 0 ⊗ var 3 ⊖ var 1 ⊗ var 2) (bx ∷ by ∷ tx ∷ ty ∷ [])
         (λ denied. denied ⊞ less (var 0 ⊗ minus (var 3) ⊖ var 1 ⊗ minus (var 2)) (num (pos 0)) k) refl
 
--- what an area's hand says of a direction to the right of the way
+-- what an area's hand says of a direction to the right of the way, which is the left of its edge walked the other way
 way_outside : (area : Area) (e : Seg) (forward : Bool) (side : Hand) → IsAreaHand area e (hand_of_way forward side) → {v : Point}
     {r : Direction} → IsOnEdge e v → IsInCone v r r (point_of (far_end forward e)) → (t : Direction) → pos 0 <ℤ bend_of t r
     → (q : Point) → IsOnEdgeAlone area e q
     → (side ≡ hand.Left → IsGerm area q t Exterior) × (side ≡ hand.Right → IsGerm area q t Interior)
-way_outside area e true hand.Left h on c t right q one = (λ _. h.outside q one t (right_forward e on c t right), λ z. cc)
-way_outside area e true hand.Right h on c t right q one = (λ z. cc, λ _. h.inside q one t (right_forward e on c t right))
-way_outside area e true hand.Line h on c t right q one = (λ z. cc, λ z. cc)
-way_outside area e false hand.Left h on c t right q one = (λ _. h.outside q one t (left_backward e on c t right), λ z. cc)
-way_outside area e false hand.Right h on c t right q one = (λ z. cc, λ _. h.inside q one t (left_backward e on c t right))
-way_outside area e false hand.Line h on c t right q one = (λ z. cc, λ z. cc)
+way_outside area e true side h on c t right q one =
+    let turned = by_hand area e false (other_hand side) (subst (IsAreaHand area e) (sym (other_twice side)) h) q t one
+    (right_forward e on c t right) in
+    (λ z. turned.1 (ap other_hand z), λ z. turned.0 (ap other_hand z))
+way_outside area e false side h on c t right q one =
+    let turned = by_hand area e true (other_hand side) h q t one (left_backward e on c t right) in
+    (λ z. turned.1 (ap other_hand z), λ z. turned.0 (ap other_hand z))
 
 -- in the sector that ends at the way the area is inside where it is on the right
 module _ (f : Figure) (shaped : IsWellShaped f) (valid : IsValid f) (place : ℕ) (area : Area) (is : IsAtPlace f.areas place area)

@@ -30,7 +30,7 @@ use Rattle.point_set.specs.Location.{edges_of_rings, rings_of}
 use Rattle.point_set.specs.Rings.{edges_of, is_on_edge}
 use Rattle.point_set.specs.Sectors.{HasNoEdgeWithin}
 use Rattle.point_set.specs.Shape.{IsAreaShaped, IsRingShaped, IsWellShaped}
-use Rattle.point_set.specs.Sides.{slope}
+use Rattle.point_set.specs.Sides.{slope, PointsTo}
 use Rattle.point_set.specs.Validity.{IsAtPlace, IsOnEdge, IsValid, ring_cross}
 use Rattle.figure_laws.proofs.Lists.Places.{some_same}
 use Rattle.plane_laws.proofs.Near.Near.{IsNear, near_mix}
@@ -195,16 +195,22 @@ right_backward e {v} {r} on c t h =
     turned bx by tx ty h = less_by (var 0 ⊗ var 3 ⊖ var 1 ⊗ var 2) (num (pos 0)) (bx ∷ by ∷ tx ∷ ty ∷ [])
         (λ denied. denied ⊞ positive (minus (var 0) ⊗ var 3 ⊖ minus (var 1) ⊗ var 2) h) refl
 
--- from the hand of the way: what an area's hand says of a direction to the left of the way
+-- what an area's hand says of a direction to the left of an edge as it is walked
+pub by_hand : (area : Area) (e : Seg) (forward : Bool) (side : Hand) → IsAreaHand area e (hand_of_way forward side) → (q : Point)
+    (t : Direction) → IsOnEdgeAlone area e q → PointsTo (hand_of_way forward hand.Left) e t
+    → (side ≡ hand.Left → IsGerm area q t Interior) × (side ≡ hand.Right → IsGerm area q t Exterior)
+by_hand area e true hand.Left h q t one to = (λ _. h.inside q one t to, λ z. cc)
+by_hand area e true hand.Right h q t one to = (λ z. cc, λ _. h.outside q one t to)
+by_hand area e false hand.Left h q t one to = (λ _. h.inside q one t to, λ z. cc)
+by_hand area e false hand.Right h q t one to = (λ z. cc, λ _. h.outside q one t to)
+by_hand area e forward hand.Line h q t one to = (λ z. cc, λ z. cc)
+
+-- and so of one to the left of the way
 way_inside : (area : Area) (e : Seg) (forward : Bool) (side : Hand) → IsAreaHand area e (hand_of_way forward side)
     → {v : Point} {r : Direction} → IsOnEdge e v → IsInCone v r r (point_of (far_end forward e)) → (t : Direction) → pos 0 <ℤ bend_of r t
     → (q : Point) → IsOnEdgeAlone area e q → (side ≡ hand.Left → IsGerm area q t Interior) × (side ≡ hand.Right → IsGerm area q t Exterior)
-way_inside area e true hand.Left h on c t left q one = (λ _. h.inside q one t (left_forward e on c t left), λ z. cc)
-way_inside area e true hand.Right h on c t left q one = (λ z. cc, λ _. h.outside q one t (left_forward e on c t left))
-way_inside area e true hand.Line h on c t left q one = (λ z. cc, λ z. cc)
-way_inside area e false hand.Left h on c t left q one = (λ _. h.inside q one t (right_backward e on c t left), λ z. cc)
-way_inside area e false hand.Right h on c t left q one = (λ z. cc, λ _. h.outside q one t (right_backward e on c t left))
-way_inside area e false hand.Line h on c t left q one = (λ z. cc, λ z. cc)
+way_inside area e true side h on c t left q one = by_hand area e true side h q t one (left_forward e on c t left)
+way_inside area e false side h on c t left q one = by_hand area e false side h q t one (right_backward e on c t left)
 
 -- ---- where near v only e is met along the way, the sector after the way is inside the area or outside by the hand
 module _ (area : Area) (shaped : IsAreaShaped area) (e : Seg) (forward : Bool) (v : Point) (on : IsOnEdge e v) (r : Direction)

@@ -125,53 +125,51 @@ crossed c d p t some = by_sign (turn c d p) low low_level high
             (λ r. r)
 
 -- ---- three points of one line
--- the edge from c to d, c before d, on the line of the way that goes ahead
-ahead_level : (c d p t : Point) → IsBefore c d → IsBefore p t → turn p t c ≡ pos 0 → turn c d p ≡ pos 0 → ¬ IsOnSegment c d p
-    → Nearest c d p t
-ahead_level c d p t up before level at_p off = go (at_most_or c p) (at_most_or c t)
-  where
-    parts : (m : Point) → IsOnSegment c d m → AtMost c m × AtMost m d
-    parts m on = on_segment-AtMost c d m up on
+-- the edge from c to d, c before d, on the line of the way
+module _ (c d p t : Point) (up : IsBefore c d) (at_p : turn c d p ≡ pos 0) (off : ¬ IsOnSegment c d p) where
+  -- between its ends
+  parts : (m : Point) → IsOnSegment c d m → AtMost c m × AtMost m d
+  parts m on = on_segment-AtMost c d m up on
 
-    way : (m : Point) → IsOnSegment p t m → AtMost p m × AtMost m t
-    way m on = on_segment-AtMost p t m before on
+  -- the way goes ahead
+  ahead_level : IsBefore p t → turn p t c ≡ pos 0 → Nearest c d p t
+  ahead_level before level = go (at_most_or c p) (at_most_or c t)
+    where
+      way : (m : Point) → IsOnSegment p t m → AtMost p m × AtMost m t
+      way m on = on_segment-AtMost p t m before on
 
-    behind : AtMost c p → (m : Point) → IsOnSegment p t m → ¬ IsOnSegment c d m
-    behind h m on held = off (on_segment-from_AtMost c d p up at_p h (at_most_trans p m d (way m on).0 (parts m held).1))
+      behind : AtMost c p → (m : Point) → IsOnSegment p t m → ¬ IsOnSegment c d m
+      behind h m on held = off (on_segment-from_AtMost c d p up at_p h (at_most_trans p m d (way m on).0 (parts m held).1))
 
-    go : AtMost c p ⊎ IsBefore p c → AtMost c t ⊎ IsBefore t c → Nearest c d p t
-    go (inl h) s = inl (behind h)
-    go (inr h) (inl k) = inr (
-      c,
-      on_segment-from_AtMost p t c before level (before_at_most p c h) k,
-      start_on_segment c d,
-      λ m within held. both_at_most m c (on_segment-AtMost p c m h within).1 (parts m held).0,
-    )
-    go (inr h) (inr k) = inl (λ m on held. not_before c m (parts m held).0 (at_most_before m t c (way m on).1 k))
+      go : AtMost c p ⊎ IsBefore p c → AtMost c t ⊎ IsBefore t c → Nearest c d p t
+      go (inl h) s = inl (behind h)
+      go (inr h) (inl k) = inr (
+        c,
+        on_segment-from_AtMost p t c before level (before_at_most p c h) k,
+        start_on_segment c d,
+        λ m within held. both_at_most m c (on_segment-AtMost p c m h within).1 (parts m held).0,
+      )
+      go (inr h) (inr k) = inl (λ m on held. not_before c m (parts m held).0 (at_most_before m t c (way m on).1 k))
 
--- the same for the way that goes back
-back_level : (c d p t : Point) → IsBefore c d → IsBefore t p → turn t p d ≡ pos 0 → turn c d p ≡ pos 0 → ¬ IsOnSegment c d p
-    → Nearest c d p t
-back_level c d p t up before level at_p off = go (at_most_or p d) (at_most_or t d)
-  where
-    parts : (m : Point) → IsOnSegment c d m → AtMost c m × AtMost m d
-    parts m on = on_segment-AtMost c d m up on
+  -- the way goes back
+  back_level : IsBefore t p → turn t p d ≡ pos 0 → Nearest c d p t
+  back_level before level = go (at_most_or p d) (at_most_or t d)
+    where
+      way : (m : Point) → IsOnSegment p t m → AtMost t m × AtMost m p
+      way m on = on_segment-AtMost t p m before (segment_flip on)
 
-    way : (m : Point) → IsOnSegment p t m → AtMost t m × AtMost m p
-    way m on = on_segment-AtMost t p m before (segment_flip on)
+      beyond : AtMost p d → (m : Point) → IsOnSegment p t m → ¬ IsOnSegment c d m
+      beyond h m on held = off (on_segment-from_AtMost c d p up at_p (at_most_trans c m p (parts m held).0 (way m on).1) h)
 
-    beyond : AtMost p d → (m : Point) → IsOnSegment p t m → ¬ IsOnSegment c d m
-    beyond h m on held = off (on_segment-from_AtMost c d p up at_p (at_most_trans c m p (parts m held).0 (way m on).1) h)
-
-    go : AtMost p d ⊎ IsBefore d p → AtMost t d ⊎ IsBefore d t → Nearest c d p t
-    go (inl h) s = inl (beyond h)
-    go (inr h) (inl k) = inr (
-      d,
-      segment_flip (on_segment-from_AtMost t p d before level k (before_at_most d p h)),
-      end_on_segment c d,
-      λ m within held. both_at_most m d (parts m held).1 (on_segment-AtMost d p m h (segment_flip within)).0,
-    )
-    go (inr h) (inr k) = inl (λ m on held. not_before m d (parts m held).1 (before_then d t m k (way m on).0))
+      go : AtMost p d ⊎ IsBefore d p → AtMost t d ⊎ IsBefore d t → Nearest c d p t
+      go (inl h) s = inl (beyond h)
+      go (inr h) (inl k) = inr (
+        d,
+        segment_flip (on_segment-from_AtMost t p d before level k (before_at_most d p h)),
+        end_on_segment c d,
+        λ m within held. both_at_most m d (parts m held).1 (on_segment-AtMost d p m h (segment_flip within)).0,
+      )
+      go (inr h) (inr k) = inl (λ m on held. not_before m d (parts m held).1 (before_then d t m k (way m on).0))
 
 -- ---- an edge that is one point
 one_point : (c d p t : Point) → IsSamePoint c d → (b : Bool) → is_on_segment p t c ≡ b → Nearest c d p t
@@ -205,11 +203,11 @@ level_edge c d p t level_c level_d at_p off = by_way (compare_points p t) refl (
 
     by_way : (o : Ordering) → compare_points p t ≡ o → (r : Ordering) → compare_points c d ≡ r → Nearest c d p t
     by_way Equal e r f = inl (none (same_compare_points p t e))
-    by_way Less e Less f = ahead_level c d p t f e level_c at_p off
-    by_way Less e Greater f = turned (ahead_level d c p t (flip_before c d f) e level_d at_p' off')
+    by_way Less e Less f = ahead_level c d p t f at_p off e level_c
+    by_way Less e Greater f = turned (ahead_level d c p t (flip_before c d f) at_p' off' e level_d)
     by_way Less e Equal f = one_point c d p t (same_compare_points c d f) (is_on_segment p t c) refl
-    by_way Greater e Less f = back_level c d p t f (flip_before p t e) (back d level_d) at_p off
-    by_way Greater e Greater f = turned (back_level d c p t (flip_before c d f) (flip_before p t e) (back c level_c) at_p' off')
+    by_way Greater e Less f = back_level c d p t f at_p off (flip_before p t e) (back d level_d)
+    by_way Greater e Greater f = turned (back_level d c p t (flip_before c d f) at_p' off' (flip_before p t e) (back c level_c))
     by_way Greater e Equal f = one_point c d p t (same_compare_points c d f) (is_on_segment p t c) refl
 
 nearest : (c d p t : Point) → ¬ IsOnSegment c d p → Nearest c d p t

@@ -5,7 +5,7 @@ use Rattle.std.specs.declared.cmp.Ordering.{Ordering}
 use Rattle.std.specs.declared.cmp.Ordering.TheVariants.{Less, Equal, Greater}
 use Rattle.std.proofs.lemmas.Bool.{true≢false}
 use Rattle.whole_algebra.proofs.Signs.{by_sign, <ℤ_apart, pos_nonzero}
-use Rattle.plane_laws.proofs.Segments.Lines.{AtMost, on_segment-AtMost, on_segment-from_AtMost, three_on_line}
+use Rattle.plane_laws.proofs.Segments.Lines.{on_segment-AtMost, on_segment-from_AtMost, three_on_line}
 use Rattle.plane_laws.proofs.Segments.Mixes.{start_on_segment, segment_flip}
 use Rattle.plane_laws.proofs.Segments.On.{mix_turn, on_segment_of_same}
 use Rattle.plane_laws.proofs.Points.Same.{same_sym, same_trans, Decides-is_same_point}
@@ -49,28 +49,30 @@ at_point c d p h on apart = record { m = p; on_first = on; on_second = start_on_
 at_end : {c d p h : Point} (m : Point) → IsOnSegment c d m → IsOnSegment p h m → ¬ IsSamePoint h m → Another c d p h
 at_end m on_first on_second apart = record { m = m; on_first = on_first; on_second = on_second; apart = λ s. apart (same_sym s) }
 
+-- one or the other
+at_point_or_end : {A B : Type 0} {c d p h : Point} (m : Point) → A ⊎ B → ¬ IsSamePoint p h → (A → IsOnSegment c d p) → IsOnSegment c d m
+    → (B → IsOnSegment p h m) → ¬ IsSamePoint h m → Another c d p h
+at_point_or_end {c} {d} {p} {h} m (inl a) not_p on_p on_m within apart = at_point c d p h (on_p a) not_p
+at_point_or_end m (inr b) not_p on_p on_m within apart = at_end m on_m (within b) apart
+
 -- h is inside the segment from c to d, which goes ahead; p is on its line, before h
 ahead : (c d p h : Point) → IsBefore c d → IsBefore p h → IsOnSegment c d h → ¬ IsSamePoint h c → ¬ IsSamePoint p h → turn c d p ≡ pos 0
     → turn p h c ≡ pos 0 → Another c d p h
-ahead c d p h up before on not_c not_p level line = go (at_most_or c p) (on_segment-AtMost c d h up on)
-  where
-    go : AtMost c p ⊎ IsBefore p c → AtMost c h × AtMost h d → Another c d p h
-    go (inl k) ends =
-        at_point c d p h (on_segment-from_AtMost c d p up level k (at_most_trans p h d (before_at_most p h before) ends.1)) not_p
-    go (inr k) ends = at_end c (start_on_segment c d) (on_segment-from_AtMost p h c before line (before_at_most p c k) ends.0) not_c
+ahead c d p h up before on not_c not_p level line =
+    let ends = on_segment-AtMost c d h up on in
+    at_point_or_end c (at_most_or c p) not_p
+    (λ k. on_segment-from_AtMost c d p up level k (at_most_trans p h d (before_at_most p h before) ends.1)) (start_on_segment c d)
+    (λ k. on_segment-from_AtMost p h c before line (before_at_most p c k) ends.0) not_c
 
 -- the same with p behind h
 behind : (c d p h : Point) → IsBefore c d → IsBefore h p → IsOnSegment c d h → ¬ IsSamePoint h d → ¬ IsSamePoint p h → turn c d p ≡ pos 0
     → turn h p d ≡ pos 0 → Another c d p h
-behind c d p h up before on not_d not_p level line = go (at_most_or p d) (on_segment-AtMost c d h up on)
-  where
-    go : AtMost p d ⊎ IsBefore d p → AtMost c h × AtMost h d → Another c d p h
-    go (inl k) ends =
-        at_point c d p h (on_segment-from_AtMost c d p up level (at_most_trans c h p ends.0 (before_at_most h p before)) k) not_p
-    go (inr k) ends =
-        at_end d (segment_flip (start_on_segment d c))
-        (segment_flip (on_segment-from_AtMost h p d before line ends.1 (before_at_most d p k)))
-        not_d
+behind c d p h up before on not_d not_p level line =
+    let ends = on_segment-AtMost c d h up on in
+    at_point_or_end d (at_most_or p d) not_p
+    (λ k. on_segment-from_AtMost c d p up level (at_most_trans c h p ends.0 (before_at_most h p before)) k)
+    (segment_flip (start_on_segment d c))
+    (λ k. segment_flip (on_segment-from_AtMost h p d before line ends.1 (before_at_most d p k))) not_d
 
 -- what is after is before, the other way round
 greater_before : (x y : Point) → compare_points x y ≡ Greater → IsBefore y x

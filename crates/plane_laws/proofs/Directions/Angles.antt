@@ -11,7 +11,7 @@ use Rattle.whole_algebra.proofs.Certificates.{same, same_from, scaled, vanishing
 use Rattle.whole_algebra.proofs.Signs.{by_sign, pos-*-pos, pos-*-neg, pos_factor, neg_factor, zero_factor, pos_nonzero}
 use lib.IntN.{*ℤ_comm, *ℤ-zero}
 use Rattle.plane_laws.specs.Directions.{Direction, past_half, bend_of, compare_ways, PointSameWay}
-use Rattle.whole_algebra.proofs.Comparisons.{int_cmp_less, int_cmp_equal, less_int_cmp, equal_int_cmp, same_int_cmp, then_second}
+use Rattle.whole_algebra.proofs.Comparisons.{int_cmp_less, int_cmp_equal, less_int_cmp, equal_int_cmp, same_int_cmp, then_second, then_gives_equal}
 
 -- ---- the halves
 half_up : (dx dy : ℤ) → pos 0 <ℤ dy → past_half dx dy ≡ false
@@ -146,11 +146,6 @@ equal_bool_cmp true true e = refl
 equal_bool_cmp true false e = cc
 equal_bool_cmp false true e = cc
 equal_bool_cmp false false e = refl
-
-then_gives_equal : (o p : Ordering) → ordering_then o p ≡ Equal → (o ≡ Equal) × (p ≡ Equal)
-then_gives_equal Less p e = cc
-then_gives_equal Equal p e = (refl, e)
-then_gives_equal Greater p e = cc
 
 pub compare_ways-same : (d e : Direction) → PointSameWay d e → compare_ways d e ≡ Equal
 compare_ways-same d e s =

@@ -46,38 +46,33 @@ mix_turn {a} {b} {p} {s} {t} m =
     ⊞ scaled (pa.w ⊗ pb.x ⊖ pa.x ⊗ pb.w) (same (var 0 ⊗ pp.y) (var 1 ⊗ pa.y ⊕ var 2 ⊗ pb.y) m.above)
     ⊞ scaled (pa.x ⊗ pb.y ⊖ pa.y ⊗ pb.x) (same (var 0 ⊗ pp.w) (var 1 ⊗ pa.w ⊕ var 2 ⊗ pb.w) m.mass)) refl)
 
--- one coordinate of the ends and of the mix: k steps from the start are t steps of the whole way
-step_from_start : (k s t a v b w p z : ℤ) → k *ℤ p ≡ s *ℤ a +ℤ t *ℤ b → k *ℤ z ≡ s *ℤ v +ℤ t *ℤ w
-    → k *ℤ (p *ℤ v -ℤ a *ℤ z) ≡ t *ℤ (b *ℤ v -ℤ a *ℤ w)
-step_from_start k s t a v b w p z h e =
+-- one coordinate of the ends and of the mix: k steps from the start are t steps of the whole way, and k to the end are s of them
+steps_of_mix : (k s t a v b w p z : ℤ) → k *ℤ p ≡ s *ℤ a +ℤ t *ℤ b → k *ℤ z ≡ s *ℤ v +ℤ t *ℤ w
+    → (k *ℤ (p *ℤ v -ℤ a *ℤ z) ≡ t *ℤ (b *ℤ v -ℤ a *ℤ w)) × (k *ℤ (b *ℤ z -ℤ p *ℤ w) ≡ s *ℤ (b *ℤ v -ℤ a *ℤ w))
+steps_of_mix k s t a v b w p z h e =
     let vs = k ∷ s ∷ t ∷ a ∷ v ∷ b ∷ w ∷ p ∷ z ∷ [] in
-    same_from (var 0 ⊗ (var 7 ⊗ var 4 ⊖ var 3 ⊗ var 8)) (var 2 ⊗ (var 5 ⊗ var 4 ⊖ var 3 ⊗ var 6)) vs
-    (scaled (var 4) (same (var 0 ⊗ var 7) (var 1 ⊗ var 3 ⊕ var 2 ⊗ var 5) h)
-    ⊞ scaled (minus (var 3)) (same (var 0 ⊗ var 8) (var 1 ⊗ var 4 ⊕ var 2 ⊗ var 6) e)) refl
-
-step_to_end : (k s t a v b w p z : ℤ) → k *ℤ p ≡ s *ℤ a +ℤ t *ℤ b → k *ℤ z ≡ s *ℤ v +ℤ t *ℤ w
-    → k *ℤ (b *ℤ z -ℤ p *ℤ w) ≡ s *ℤ (b *ℤ v -ℤ a *ℤ w)
-step_to_end k s t a v b w p z h e =
-    let vs = k ∷ s ∷ t ∷ a ∷ v ∷ b ∷ w ∷ p ∷ z ∷ [] in
-    same_from (var 0 ⊗ (var 5 ⊗ var 8 ⊖ var 7 ⊗ var 6)) (var 1 ⊗ (var 5 ⊗ var 4 ⊖ var 3 ⊗ var 6)) vs
-    (scaled (minus (var 6)) (same (var 0 ⊗ var 7) (var 1 ⊗ var 3 ⊕ var 2 ⊗ var 5) h)
-    ⊞ scaled (var 5) (same (var 0 ⊗ var 8) (var 1 ⊗ var 4 ⊕ var 2 ⊗ var 6) e)) refl
+    let whole = var 5 ⊗ var 4 ⊖ var 3 ⊗ var 6 in
+    let place = same {vs = vs} (var 0 ⊗ var 7) (var 1 ⊗ var 3 ⊕ var 2 ⊗ var 5) h in
+    let weight = same {vs = vs} (var 0 ⊗ var 8) (var 1 ⊗ var 4 ⊕ var 2 ⊗ var 6) e in (
+      same_from (var 0 ⊗ (var 7 ⊗ var 4 ⊖ var 3 ⊗ var 8)) (var 2 ⊗ whole) vs (scaled (var 4) place ⊞ scaled (minus (var 3)) weight) refl,
+      same_from (var 0 ⊗ (var 5 ⊗ var 8 ⊖ var 7 ⊗ var 6)) (var 1 ⊗ whole) vs (scaled (minus (var 6)) place ⊞ scaled (var 5) weight) refl,
+    )
 
 pub mix_shift_start : {a b p : Point} {s t : ℤ} (m : IsMix a b p s t) → m.times *ℤ shift a p ≡ t *ℤ shift a b
 unfolding shift
-mix_shift_start {a} {b} {p} {s} {t} m = step_from_start m.times s t a.x a.w b.x b.w p.x p.w m.across m.mass
+mix_shift_start {a} {b} {p} {s} {t} m = (steps_of_mix m.times s t a.x a.w b.x b.w p.x p.w m.across m.mass).0
 
 pub mix_shift_end : {a b p : Point} {s t : ℤ} (m : IsMix a b p s t) → m.times *ℤ shift p b ≡ s *ℤ shift a b
 unfolding shift
-mix_shift_end {a} {b} {p} {s} {t} m = step_to_end m.times s t a.x a.w b.x b.w p.x p.w m.across m.mass
+mix_shift_end {a} {b} {p} {s} {t} m = (steps_of_mix m.times s t a.x a.w b.x b.w p.x p.w m.across m.mass).1
 
 pub mix_rise_start : {a b p : Point} {s t : ℤ} (m : IsMix a b p s t) → m.times *ℤ rise a p ≡ t *ℤ rise a b
 unfolding rise
-mix_rise_start {a} {b} {p} {s} {t} m = step_from_start m.times s t a.y a.w b.y b.w p.y p.w m.above m.mass
+mix_rise_start {a} {b} {p} {s} {t} m = (steps_of_mix m.times s t a.y a.w b.y b.w p.y p.w m.above m.mass).0
 
 pub mix_rise_end : {a b p : Point} {s t : ℤ} (m : IsMix a b p s t) → m.times *ℤ rise p b ≡ s *ℤ rise a b
 unfolding rise
-mix_rise_end {a} {b} {p} {s} {t} m = step_to_end m.times s t a.y a.w b.y b.w p.y p.w m.above m.mass
+mix_rise_end {a} {b} {p} {s} {t} m = (steps_of_mix m.times s t a.y a.w b.y b.w p.y p.w m.above m.mass).1
 
 -- both steps are parts of one way
 parts_of_way : (k s t d u v : ℤ) → pos 0 <ℤ k → pos 0 ≤ℤ s → pos 0 ≤ℤ t → k *ℤ u ≡ t *ℤ d → k *ℤ v ≡ s *ℤ d → IsSameWay u v

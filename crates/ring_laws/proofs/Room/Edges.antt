@@ -1,5 +1,5 @@
 -- Room round a point: near a point only those edges of a list lie that hold it.
-use Rattle.std.proofs.Common.{◌≡◌, ℕ, ◌+◌, ◌≤◌, ℤ, ◌<ℤ◌, ◌≤ℤ◌, Bool, true, false, List, [], ◌∷◌, refl, sym, ◌∙◌, arith}
+use Rattle.std.proofs.Common.{◌≡◌, ℕ, ◌+◌, ◌≤◌, Bool, true, false, List, [], ◌∷◌, refl, sym, ◌∙◌, arith}
 use Rattle.std.proofs.lemmas.Bool.{false_from_ne_true, true≢false}
 use lib.Signed.{<ℤ_irrefl, <ℤ-≤ℤ_trans}
 use Rattle.plane_laws.proofs.Segments.On.{Decides-is_on_segment}

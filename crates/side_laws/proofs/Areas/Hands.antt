@@ -229,7 +229,7 @@ other_sided hand.Left sided e = cc
 other_sided hand.Right sided e = cc
 other_sided hand.Line sided e = sided e
 
-other_twice : (side : Hand) → other_hand (other_hand side) ≡ side
+pub other_twice : (side : Hand) → other_hand (other_hand side) ≡ side
 other_twice hand.Left = refl
 other_twice hand.Right = refl
 other_twice hand.Line = refl

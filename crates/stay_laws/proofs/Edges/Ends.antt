@@ -94,25 +94,20 @@ ends_in f =
     (ends_of_ways (all_positions f) (rings_of_areas f.areas)
     (λ m h. some_right (is_at m) f.points (lines ++ rings) (some_right (is_at m) lines rings h))))
 
+-- what is among some positions is among more
+ends_in_more :
+    (positions more : List Pt) → AreWithin positions more → (edges : List Seg) → AllByRecursion (HasEndsIn positions) edges
+    → AllByRecursion (HasEndsIn more) edges
+ends_in_more positions more within = all_map (HasEndsIn positions) (HasEndsIn more)
+    (λ e h. record { first = within (point_of e.a) h.first; second = within (point_of e.b) h.second })
+
 -- of two figures
 pub ends_in_both : (a b : Figure) → AllByRecursion (HasEndsIn (all_positions a ++ all_positions b)) (segs_of a ++ segs_of b)
 ends_in_both a b =
     let positions = all_positions a ++ all_positions b in
     all_joined (HasEndsIn positions) (segs_of a) (segs_of b)
-    (all_map (HasEndsIn (all_positions a)) (HasEndsIn positions)
-    (λ e h. record {
-      first = some_left (is_at (point_of e.a)) (all_positions a) (all_positions b) h.first;
-      second = some_left
-          (is_at (point_of e.b)) (all_positions a) (all_positions b) h.second;
-    })
-    (segs_of a) (ends_in a))
-    (all_map (HasEndsIn (all_positions b)) (HasEndsIn positions)
-    (λ e h. record {
-      first = some_right (is_at (point_of e.a)) (all_positions a) (all_positions b) h.first;
-      second = some_right
-          (is_at (point_of e.b)) (all_positions a) (all_positions b) h.second;
-    })
-    (segs_of b) (ends_in b))
+    (ends_in_more (all_positions a) positions (λ m. some_left (is_at m) (all_positions a) (all_positions b)) (segs_of a) (ends_in a))
+    (ends_in_more (all_positions b) positions (λ m. some_right (is_at m) (all_positions a) (all_positions b)) (segs_of b) (ends_in b))
 
 -- of one of its areas
 pub ends_in_area :

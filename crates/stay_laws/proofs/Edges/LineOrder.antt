@@ -25,23 +25,17 @@ step_of_mixes k s t l u v x xw y yw a aw b bw e f g h =
     ⊞ scaled (var 4 ⊗ var 10 ⊕ var 5 ⊗ var 12) (same (var 0 ⊗ var 7) (var 1 ⊗ var 11 ⊕ var 2 ⊗ var 13) f)
     ⊞ scaled (minus (var 4 ⊗ var 11 ⊕ var 5 ⊗ var 13)) (same (var 0 ⊗ var 6) (var 1 ⊗ var 10 ⊕ var 2 ⊗ var 12) e)) refl
 
--- for three mixes of the same ends: across
-step_across :
+-- for two mixes of the same ends: across, and above
+steps_of_mixes :
     {a b x y : Point} (on_x : IsOnSegment a b x) (on_y : IsOnSegment a b y)
-    → (on_x.mix.times *ℤ on_y.mix.times) *ℤ shift x y ≡ ((on_x.s *ℤ on_y.t) -ℤ (on_x.t *ℤ on_y.s)) *ℤ shift a b
-unfolding shift
-step_across {a} {b} {x} {y} on_x on_y =
-    step_of_mixes on_x.mix.times on_x.s on_x.t on_y.mix.times on_y.s on_y.t x.x x.w y.x y.w a.x a.w b.x b.w on_x.mix.across on_x.mix.mass
-    on_y.mix.across on_y.mix.mass
-
--- and above
-step_above :
-    {a b x y : Point} (on_x : IsOnSegment a b x) (on_y : IsOnSegment a b y)
-    → (on_x.mix.times *ℤ on_y.mix.times) *ℤ rise x y ≡ ((on_x.s *ℤ on_y.t) -ℤ (on_x.t *ℤ on_y.s)) *ℤ rise a b
-unfolding rise
-step_above {a} {b} {x} {y} on_x on_y =
-    step_of_mixes on_x.mix.times on_x.s on_x.t on_y.mix.times on_y.s on_y.t x.y x.w y.y y.w a.y a.w b.y b.w on_x.mix.above on_x.mix.mass
-    on_y.mix.above on_y.mix.mass
+    → ((on_x.mix.times *ℤ on_y.mix.times) *ℤ shift x y ≡ ((on_x.s *ℤ on_y.t) -ℤ (on_x.t *ℤ on_y.s)) *ℤ shift a b)
+    × ((on_x.mix.times *ℤ on_y.mix.times) *ℤ rise x y ≡ ((on_x.s *ℤ on_y.t) -ℤ (on_x.t *ℤ on_y.s)) *ℤ rise a b)
+unfolding shift rise
+steps_of_mixes {a} {b} {x} {y} on_x on_y =
+    let step = step_of_mixes on_x.mix.times on_x.s on_x.t on_y.mix.times on_y.s on_y.t in
+    let m = on_x.mix in
+    let n = on_y.mix in
+    (step x.x x.w y.x y.w a.x a.w b.x b.w m.across m.mass n.across n.mass, step x.y x.w y.y y.w a.y a.w b.y b.w m.above m.mass n.above n.mass)
 
 -- two multiples of one whole
 ratio : (k l m c d y z whole : ℤ) → (k *ℤ l) *ℤ y ≡ c *ℤ whole → (k *ℤ m) *ℤ z ≡ d *ℤ whole → ((k *ℤ m) *ℤ c) *ℤ z ≡ ((k *ℤ l) *ℤ d) *ℤ y
@@ -96,16 +90,16 @@ line_ratio {a} {b} {x} {y} {z} on_x on_y on_z apart = by_sign c
     km = on_x.mix.times *ℤ on_z.mix.times
 
     shift_y : kl *ℤ shift x y ≡ c *ℤ shift a b
-    shift_y = step_across on_x on_y
+    shift_y = (steps_of_mixes on_x on_y).0
 
     rise_y : kl *ℤ rise x y ≡ c *ℤ rise a b
-    rise_y = step_above on_x on_y
+    rise_y = (steps_of_mixes on_x on_y).1
 
     shift_z : km *ℤ shift x z ≡ d *ℤ shift a b
-    shift_z = step_across on_x on_z
+    shift_z = (steps_of_mixes on_x on_z).0
 
     rise_z : km *ℤ rise x z ≡ d *ℤ rise a b
-    rise_z = step_above on_x on_z
+    rise_z = (steps_of_mixes on_x on_z).1
 
     shifts : (km *ℤ c) *ℤ shift x z ≡ (kl *ℤ d) *ℤ shift x y
     shifts = ratio on_x.mix.times on_y.mix.times on_z.mix.times c d (shift x y) (shift x z) (shift a b) shift_y shift_z

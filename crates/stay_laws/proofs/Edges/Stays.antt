@@ -66,21 +66,13 @@ module _ (e g : Seg) (x y : Point) (apart : ¬ IsSamePoint x y) (e_x : IsOnEdge 
 
   -- an end of g that lies from x towards a point z of g, where y is opposite: the other end lies towards y
   module _ (z : Point) (away : ¬ IsSamePoint x z) (g_z : IsOnEdge g z) where
-    -- the first end towards z: then the second lies towards y, or z does
-    by_first :
-        IsInCone x (way_to x z away) (way_to x z away) (point_of g.a) → IsBeside x y z apart
-        → IsInCone x onward onward (point_of g.b) ⊎ IsInCone x onward onward z
+    -- one end towards z: then the other lies towards y, or z does
+    by_end :
+        {one other : Point} → IsStrictlyBetween one other x → IsInCone x (way_to x z away) (way_to x z away) one → IsBeside x y z apart
+        → IsInCone x onward onward other ⊎ IsInCone x onward onward z
     unfolding onward
-    by_first c (toward t) = inr t
-    by_first c (opposite u w hu hw h k) = inl (other_end apart away u w hu hw h k inner c)
-
-    -- the second end towards z: then the first lies towards y, or z does
-    by_second :
-        IsInCone x (way_to x z away) (way_to x z away) (point_of g.b) → IsBeside x y z apart
-        → IsInCone x onward onward (point_of g.a) ⊎ IsInCone x onward onward z
-    unfolding onward
-    by_second c (toward t) = inr t
-    by_second c (opposite u w hu hw h k) = inl (other_end apart away u w hu hw h k inner_back c)
+    by_end between c (toward t) = inr t
+    by_end between c (opposite u w hu hw h k) = inl (other_end apart away u w hu hw h k between c)
 
     -- no end lies towards y: then z isn't on e
     none_toward : ¬ IsInCone x onward onward (point_of g.a) → ¬ IsInCone x onward onward (point_of g.b) → ¬ IsOnEdge e z
@@ -104,8 +96,8 @@ module _ (e g : Seg) (x y : Point) (apart : ¬ IsSamePoint x y) (e_x : IsOnEdge 
         by_b (inr c) = not_z c
 
         by_ends : (s t : Bool) → is_toward x f (point_of g.a) ≡ s → is_toward x f (point_of g.b) ≡ t → ⊥
-        by_ends true t h k = by_a (by_first ((Decides-is_toward x f (point_of g.a)).0 h) (beside e_x e_y e_z apart away))
-        by_ends false true h k = by_b (by_second ((Decides-is_toward x f (point_of g.b)).0 k) (beside e_x e_y e_z apart away))
+        by_ends true t h k = by_a (by_end inner ((Decides-is_toward x f (point_of g.a)).0 h) (beside e_x e_y e_z apart away))
+        by_ends false true h k = by_b (by_end inner_back ((Decides-is_toward x f (point_of g.b)).0 k) (beside e_x e_y e_z apart away))
         by_ends false false h k =
             ends_decide x f f (point_of g.a) (point_of g.b) z (direction_pointed x f) g_x g_z
             (record {

@@ -5,6 +5,7 @@ use Rattle.std.proofs.Common.{◌∷◌, ap, refl, sym, ◌∙◌, subst, arith}
 use Rattle.std.proofs.lemmas.Bool.{true≢false, or_left, or_right}
 use Rattle.im_matrix.specs.declared.Loc.{Loc}
 use Rattle.im_matrix.specs.declared.Loc.TheVariants.{Interior, Boundary, Exterior}
+use lib.IntN.{zero-*ℤ}
 use Rattle.whole_algebra.proofs.Laws.{linear}
 use Rattle.whole_algebra.proofs.Polynomials.{var, num, ◌⊕◌, ◌⊗◌, minus}
 use Rattle.whole_algebra.proofs.Certificates.{same, same_from, scaled, ◌⊞◌}
@@ -114,60 +115,49 @@ module _ (area : Area) (i : ℕ) (e : Seg) (e_is : IsAtPlace (edges_of_rings (ri
       none : (x : ℤ) → neg_ℤ x ≡ pos 0 → x ≡ pos 0
       none x h = omega (arith, linear, h)
 
+  -- a point to which k steps from v are s of a direction lies along it
+  along_way :
+      (d : Direction) (p : Point) (s k : ℤ) → pos 0 <ℤ s → pos 0 <ℤ k → k *ℤ shift v p ≡ s *ℤ d.x → k *ℤ rise v p ≡ s *ℤ d.y → IsInCone v d d p
+  along_way d p s k hs hk across above = record {
+    i = s;
+    j = pos 0;
+    first = <ℤ_weaken hs;
+    second = omega (arith, linear);
+    some = omega (arith, linear, hs);
+    times = k;
+    positive = hk;
+    across = omega (arith, linear, across, zero-*ℤ d.x);
+    above = omega (arith, linear, above, zero-*ℤ d.y);
+  }
+
   -- k of the step are s of the edge
-  ahead : (k s step whole edge : ℤ) → k *ℤ step ≡ s *ℤ whole → whole ≡ edge → k *ℤ step ≡ (s *ℤ edge) +ℤ (pos 0 *ℤ edge)
-  ahead k s step whole edge h l =
-      same_from (var 0 ⊗ var 2) (var 1 ⊗ var 4 ⊕ num (pos 0) ⊗ var 4) (k ∷ s ∷ step ∷ whole ∷ edge ∷ [])
-      (same (var 0 ⊗ var 2) (var 1 ⊗ var 3) h ⊞ scaled (var 1) (same (var 3) (var 4) l)) refl
+  ahead : (k s step whole edge : ℤ) → k *ℤ step ≡ s *ℤ whole → whole ≡ edge → k *ℤ step ≡ s *ℤ edge
+  ahead k s step whole edge h l = h ∙ ap (λ z. s *ℤ z) l
 
   -- k of the step back are t of the edge turned round
-  behind :
-      (k t step back whole edge : ℤ) → step ≡ neg_ℤ back → k *ℤ back ≡ t *ℤ whole → whole ≡ edge
-      → k *ℤ step ≡ (t *ℤ neg_ℤ edge) +ℤ (pos 0 *ℤ neg_ℤ edge)
+  behind : (k t step back whole edge : ℤ) → step ≡ neg_ℤ back → k *ℤ back ≡ t *ℤ whole → whole ≡ edge → k *ℤ step ≡ t *ℤ neg_ℤ edge
   behind k t step back whole edge b h l =
-      same_from (var 0 ⊗ var 2) (var 1 ⊗ minus (var 5) ⊕ num (pos 0) ⊗ minus (var 5)) (k ∷ t ∷ step ∷ back ∷ whole ∷ edge ∷ [])
+      same_from (var 0 ⊗ var 2) (var 1 ⊗ minus (var 5)) (k ∷ t ∷ step ∷ back ∷ whole ∷ edge ∷ [])
       (scaled (var 0) (same (var 2) (minus (var 3)) b) ⊞ scaled (minus (num (pos 1))) (same (var 0 ⊗ var 3) (var 1 ⊗ var 4) h)
       ⊞ scaled (minus (var 1)) (same (var 4) (var 5) l)) refl
 
   -- the second end lies ahead of a point strictly between
   cone_ahead : (b : IsStrictlyBetween (point_of e.a) (point_of e.b) v) → IsInCone v (edge_way b.apart) (edge_way b.apart) (point_of e.b)
   unfolding edge_way
-  cone_ahead b = record {
-    i = b.s;
-    j = pos 0;
-    first = <ℤ_weaken b.some_first;
-    second = omega (arith, linear);
-    some = let h = b.some_first in omega (arith, linear, h);
-    times = b.mix.times;
-    positive = b.mix.some;
-    across =
-        ahead b.mix.times b.s (shift v (point_of e.b)) (shift (point_of e.a) (point_of e.b)) (e.b.x -ℤ e.a.x) (mix_shift_end b.mix)
-        (shift-positions e.a e.b);
-    above =
-        ahead b.mix.times b.s (rise v (point_of e.b)) (rise (point_of e.a) (point_of e.b)) (e.b.y -ℤ e.a.y) (mix_rise_end b.mix)
-        (rise-positions e.a e.b);
-  }
+  cone_ahead b =
+      along_way (edge_way b.apart) (point_of e.b) b.s b.mix.times b.some_first b.mix.some
+      (ahead b.mix.times b.s _ _ _ (mix_shift_end b.mix) (shift-positions e.a e.b))
+      (ahead b.mix.times b.s _ _ _ (mix_rise_end b.mix) (rise-positions e.a e.b))
 
   -- and the first one behind
   cone_behind :
       (b : IsStrictlyBetween (point_of e.a) (point_of e.b) v)
       → IsInCone v (back_way (edge_way b.apart)) (back_way (edge_way b.apart)) (point_of e.a)
   unfolding edge_way back_way
-  cone_behind b = record {
-    i = b.t;
-    j = pos 0;
-    first = <ℤ_weaken b.some_second;
-    second = omega (arith, linear);
-    some = let h = b.some_second in omega (arith, linear, h);
-    times = b.mix.times;
-    positive = b.mix.some;
-    across =
-        behind b.mix.times b.t (shift v (point_of e.a)) (shift (point_of e.a) v) (shift (point_of e.a) (point_of e.b)) (e.b.x -ℤ e.a.x)
-        (shift_back (point_of e.a) v) (mix_shift_start b.mix) (shift-positions e.a e.b);
-    above =
-        behind b.mix.times b.t (rise v (point_of e.a)) (rise (point_of e.a) v) (rise (point_of e.a) (point_of e.b)) (e.b.y -ℤ e.a.y)
-        (rise_back (point_of e.a) v) (mix_rise_start b.mix) (rise-positions e.a e.b);
-  }
+  cone_behind b =
+      along_way (back_way (edge_way b.apart)) (point_of e.a) b.t b.mix.times b.some_second b.mix.some
+      (behind b.mix.times b.t _ _ _ _ (shift_back (point_of e.a) v) (mix_shift_start b.mix) (shift-positions e.a e.b))
+      (behind b.mix.times b.t _ _ _ _ (rise_back (point_of e.a) v) (mix_rise_start b.mix) (rise-positions e.a e.b))
 
   -- to point the same way goes both ways
   way_turned : {u w : Direction} → PointSameWay u w → PointSameWay w u

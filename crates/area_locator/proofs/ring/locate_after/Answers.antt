@@ -20,6 +20,12 @@ so_far p first others last index odd d below on is_it =
     subst P (drop-cons others index d below ∙ ap (λ n. get_or others index d ∷ drop n others) (sym (add-one index)))
     (record { on = on; odd_is = is_it })
 
+-- the same count, as another term has it
+with_odd :
+    {p : Point} {first : Pt} {others : List Pt} {last : Pt} {rest : List Pt} {odd odd' : Bool} → odd ≡ odd'
+    → IsSoFar p first others last rest odd → IsSoFar p first others last rest odd'
+with_odd {p} {first} {others} {last} {rest} e = subst (λ z. IsSoFar p first others last rest z) e
+
 pub returns-in-Holds : goal.returns-in-Holds
 returns-in-Holds c =
     let s = so_far (point_at c.args.n.now) c.args.first c.args.others.now c.loop-p.last c.loop-p.p-index c.loop-p.odd
@@ -36,27 +42,9 @@ loop-p-preserved c =
     (record { x = pos 0; y = pos 0 }) (omega arith) c.loop-p.invariant.on c.loop-p.invariant.odd in
     elim c.match-touch_between.branch [
       | in-Crosses w ↦
-          (let t = step_crosses s
-          (sym c.touch_between.ensures.touch
-          ∙ w.in-Crosses.is) in record {
-            last = c.requires.others _ _ (omega arith);
-            on = t.on;
-            odd = t.odd_is
-                ∙ ap (λ z. differ z
-                (is_odd (point_at c.args.n.now)
-                (edges_after (get_or c.args.others.now c.loop-p.p-index (record { x = pos 0; y = pos 0 }))
-                (drop (c.loop-p.p-index + 1) c.args.others.now)))) (sym w.odd-is);
-          })
+          (let t = with_odd (sym w.odd-is) (step_crosses s (sym c.touch_between.ensures.touch ∙ w.in-Crosses.is)) in
+          record { last = c.requires.others _ _ (omega arith); on = t.on; odd = t.odd_is })
       | in-Misses w ↦
-          (let t = step_misses s
-          (sym c.touch_between.ensures.touch
-          ∙ w.in-Misses.is) in record {
-            last = c.requires.others _ _ (omega arith);
-            on = t.on;
-            odd = t.odd_is
-                ∙ ap (λ z. differ z
-                (is_odd (point_at c.args.n.now)
-                (edges_after (get_or c.args.others.now c.loop-p.p-index (record { x = pos 0; y = pos 0 }))
-                (drop (c.loop-p.p-index + 1) c.args.others.now)))) (sym w.odd-is);
-          })
+          (let t = with_odd (sym w.odd-is) (step_misses s (sym c.touch_between.ensures.touch ∙ w.in-Misses.is)) in
+          record { last = c.requires.others _ _ (omega arith); on = t.on; odd = t.odd_is })
     ]

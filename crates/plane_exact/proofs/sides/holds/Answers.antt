@@ -39,14 +39,10 @@ returns-then-is_between c =
     }
 
 pub returns-else-is_between : goal.returns-else-is_between
-returns-else-is_between c =
-    let n = c.args.n.now in
-    let box = c.args.window.now in
-    record {
-      within = (
-        λ t. absurd (false≢true (sym c.if-is_between.false ∙ t)),
-        λ h. c.is_between.ensures.between.1
-            (as_read n.x n.w box.low_x box.high_x n.across (abscissa_size _ c.requires.low)
-            (abscissa_size _ c.requires.high) h.left h.right),
-      );
-    }
+returns-else-is_between c = record {
+  within = (
+    λ t. absurd (false≢true (sym c.if-is_between.false ∙ t)),
+    λ h. c.is_between.ensures.between.1
+        (as_read _ _ _ _ c.args.n.now.across (abscissa_size _ c.requires.low) (abscissa_size _ c.requires.high) h.left h.right),
+  );
+}

@@ -1,4 +1,4 @@
-use Rattle.std.proofs.Common.{◌≡◌, ℤ, ◌-ℤ◌, ◌*ℤ◌, refl, ◌∙◌, ap}
+use Rattle.std.proofs.Common.{◌≡◌, ◌+◌, ◌*◌, ℤ, ◌-ℤ◌, ◌*ℤ◌, refl, ◌∙◌, ap}
 use mir.Syntax.{w64, w128}
 use Rattle.whole_algebra.proofs.Computed.{Computes, product, difference, stored, fits, narrow, wide, via}
 use Rattle.plane_exact.specs.Limits.{spread, longest}
@@ -24,6 +24,16 @@ right a n r h e = stored w128 (via e (gap n.x n.w a.x n.across (abscissa_size a 
 up : (a : Pt) (n : Node) (r : ℤ) → IsInLimit a → r ≡ wide n.y -ℤ narrow a.y *ℤ wide n.w → Computes (wide r) (n.y -ℤ a.y *ℤ n.w) longest
 up a n r h e = stored w128 (via e (gap n.y n.w a.y n.above (height_size a h))) refl
 
+-- the cross product whose sign is the answer
+cross :
+    (a b : Pt) (n : Node) {r s u v : ℤ} → IsInLimit a → IsInLimit b → r ≡ narrow (narrow b.x -ℤ narrow a.x)
+    → s ≡ narrow (narrow b.y -ℤ narrow a.y) → u ≡ wide n.y -ℤ narrow a.y *ℤ wide n.w → v ≡ wide n.x -ℤ narrow a.x *ℤ wide n.w
+    → Computes (wide (wide r *ℤ wide u) -ℤ wide (wide s *ℤ wide v))
+    ((b.x -ℤ a.x) *ℤ (n.y -ℤ a.y *ℤ n.w) -ℤ (b.y -ℤ a.y) *ℤ (n.x -ℤ a.x *ℤ n.w)) (spread * longest + spread * longest)
+cross a b n h k er es eu ev =
+    difference (stored w128 (product (ahead a b _ h k er) (up a n _ h eu)) refl)
+    (stored w128 (product (rising a b _ h k es) (right a n _ h ev)) refl)
+
 pub overflow_sub-b : goal.overflow_sub-b
 overflow_sub-b c = fits w64 (step c.args.a.x c.args.b.x (abscissa_size c.args.a c.requires.a) (abscissa_size c.args.b c.requires.b)) refl
 
@@ -41,21 +51,13 @@ overflow_mul-from-2 c =
 
 pub overflow_sub-from : goal.overflow_sub-from
 overflow_sub-from c =
-    let a = c.args.a in
-    let b = c.args.b in
-    let n = c.args.n.now in
-    let first = product (ahead a b _ c.requires.a c.requires.b c.from.ensures) (up a n _ c.requires.a c.beyond-up.ensures.distance) in
-    let second = product (rising a b _ c.requires.a c.requires.b c.from-2.ensures)
-    (right a n _ c.requires.a c.beyond-right.ensures.distance) in
-    fits w128 (difference (stored w128 first refl) (stored w128 second refl)) refl
+    fits w128
+    (cross c.args.a c.args.b c.args.n.now c.requires.a c.requires.b c.from.ensures c.from-2.ensures c.beyond-up.ensures.distance
+    c.beyond-right.ensures.distance) refl
 
 pub returns : goal.returns
 returns c =
-    let a = c.args.a in
-    let b = c.args.b in
-    let n = c.args.n.now in
-    let first = product (ahead a b _ c.requires.a c.requires.b c.from.ensures) (up a n _ c.requires.a c.beyond-up.ensures.distance) in
-    let second = product (rising a b _ c.requires.a c.requires.b c.from-2.ensures)
-    (right a n _ c.requires.a c.beyond-right.ensures.distance) in
-    let all = stored w128 (difference (stored w128 first refl) (stored w128 second refl)) refl in
-    record { side = c.wide_sign.ensures.sign ∙ ap sign_of (all.is ∙ turn-point a b (point_at n)) }
+    let all = stored w128
+    (cross c.args.a c.args.b c.args.n.now c.requires.a c.requires.b c.from.ensures c.from-2.ensures c.beyond-up.ensures.distance
+    c.beyond-right.ensures.distance) refl in
+    record { side = c.wide_sign.ensures.sign ∙ ap sign_of (all.is ∙ turn-point c.args.a c.args.b (point_at c.args.n.now)) }

@@ -1,7 +1,6 @@
-use Rattle.std.proofs.Common.{◌≡◌, ◌++◌, ◌+◌, length, drop, ap, refl, ◌∙◌, arith}
+use Rattle.std.proofs.Common.{◌≡◌, ◌++◌, ◌+◌, length, drop, ap, refl, arith}
 use Rattle.point_set.specs.declared.edge.Hand.TheVariants as hand
 use Rattle.point_set.specs.declared.edge.Owner.TheVariants.{Line}
-use Rattle.point_set.specs.declared.figure.Figure.{Figure}
 use Rattle.point_set.specs.Edges.{edges_of_lines}
 use Rattle.point_set.specs.Rings.{edges_of}
 use Rattle.ring_sides.specs.Rows.{owned_edges}

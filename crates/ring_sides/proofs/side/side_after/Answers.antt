@@ -8,15 +8,13 @@ returns-in-None c = record { side = side_of_none (c.args.first ∷ c.args.others
 pub returns-then-is_ray_left-odd : goal.returns-then-is_ray_left-odd
 returns-then-is_ray_left-odd c = record {
   side =
-      left_by_tests (c.args.first ∷ c.args.others.now) c.requires.closed c.requires.simple c.in-Some.edge
-      (sym c.first_edge.ensures.first ∙ c.in-Some.is)
-      c.is_ray_left.result c.is_odd_at_middle-odd.result c.is_ray_left.ensures.left c.is_odd_at_middle-odd.ensures.odd c.if-is_ray_left-odd.true;
+      left_by_tests _ c.requires.closed c.requires.simple _ (sym c.first_edge.ensures.first ∙ c.in-Some.is) _ _ c.is_ray_left.ensures.left
+      c.is_odd_at_middle-odd.ensures.odd c.if-is_ray_left-odd.true;
 }
 
 pub returns-else-is_ray_left-odd : goal.returns-else-is_ray_left-odd
 returns-else-is_ray_left-odd c = record {
   side =
-      right_by_tests (c.args.first ∷ c.args.others.now) c.requires.closed c.requires.simple c.in-Some.edge
-      (sym c.first_edge.ensures.first ∙ c.in-Some.is)
-      c.is_ray_left.result c.is_odd_at_middle-odd.result c.is_ray_left.ensures.left c.is_odd_at_middle-odd.ensures.odd c.if-is_ray_left-odd.false;
+      right_by_tests _ c.requires.closed c.requires.simple _ (sym c.first_edge.ensures.first ∙ c.in-Some.is) _ _ c.is_ray_left.ensures.left
+      c.is_odd_at_middle-odd.ensures.odd c.if-is_ray_left-odd.false;
 }
