@@ -25,7 +25,7 @@ use Rattle.point_set.specs.Shape.{IsWellShaped}
 use Rattle.point_set.specs.Validity.{IsAtPlace, IsValid}
 use Rattle.figure_laws.proofs.Edges.Windows.{one_least_window}
 use Rattle.union_locator.specs.Areas.{AreNearAreas, IsInAreaAt}
-use Rattle.union_locator.specs.Shells.{AreBoxesNear, AreShellBoxes, AreShellsNear, IsBoxNearAt, IsShellBox, IsShellNearAt, diagonal_of}
+use Rattle.union_locator.specs.Shells.{AreBoxesNear, AreShellBoxes, AreShellsNear, IsBoxNearAt, IsShellNearAt, diagonal_of}
 use Rattle.union_locator.proofs.BeyondShells.{apart_is_out, near_by_boxes, outside_exterior}
 use Rattle.union_locator.proofs.MeetingPlaces.{image_at, source_at}
 use Rattle.union_locator.proofs.SingleAreas.{item_at}

@@ -1,9 +1,8 @@
-use Rattle.std.proofs.Common.{◌<◌, ◌+◌, length, take, sym, ◌∙◌, subst, arith}
-use Rattle.im_matrix.specs.declared.Loc.{Loc}
+use Rattle.std.proofs.Common.{◌<◌, length, sym, ◌∙◌, subst, arith}
 use Rattle.plane_exact.specs.NodePoints.{point_at}
 use Rattle.point_set.specs.declared.figure.Figure.{Figure}
 use Rattle.figure_laws.proofs.Lists.Counts.{few_areas}
-use Rattle.union_locator.specs.Areas.{IsInAreaAt, IsInAreas}
+use Rattle.union_locator.specs.Areas.{IsInAreaAt}
 use Rattle.union_locator.proofs.SingleAreas.{inside_here, boundary_here, outside_here, all_passed}
 use Rattle.union_locator.proofs.areas.locate_in_all.Given.{Over}
 use Rattle.union_locator.proofs.areas.locate_in_all.Goals as goal

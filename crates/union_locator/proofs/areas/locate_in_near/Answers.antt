@@ -1,10 +1,9 @@
-use Rattle.std.proofs.Common.{◌+◌, ◌<◌, List, ℕ, length, get_or, ap, sym, ◌∙◌, subst, subst₂, arith}
-use Rattle.im_matrix.specs.declared.Loc.{Loc}
+use Rattle.std.proofs.Common.{◌<◌, List, ℕ, length, get_or, ap, ◌∙◌, subst₂, arith}
 use Rattle.im_matrix.specs.declared.Loc.TheVariants.{Interior}
 use Rattle.plane_exact.specs.NodePoints.{point_at}
 use Rattle.point_set.specs.declared.figure.Figure.{Figure}
 use Rattle.union_locator.specs.Areas.{IsInAreaAt}
-use Rattle.union_locator.proofs.NearAreas.{ArePassed, some_here, boundary_passed, outside_passed, all_near}
+use Rattle.union_locator.proofs.NearAreas.{some_here, boundary_passed, outside_passed, all_near}
 use Rattle.union_locator.proofs.areas.locate_in_near.Given.{Over}
 use Rattle.union_locator.proofs.areas.locate_in_near.Goals as goal
 use Rattle.union_locator.proofs.areas.locate_in_near.Goals.{In_ok-loc, in-Boundary, in-Exterior}
