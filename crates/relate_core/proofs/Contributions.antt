@@ -1,5 +1,6 @@
 -- What the samples at a point are: the germs along its edge directions, and those along some direction of each of its sectors.
-use Rattle.std.proofs.Common.{◌⊎◌, inl, inr, ℕ, ◌<◌, List}
+use Rattle.std.proofs.Common.{◌⊎◌, inl, inr, ℕ, ◌<◌, List, length}
+use Rattle.std.proofs.lemmas.Option.{slice_get_within}
 use Rattle.im_matrix.specs.declared.Cell.{Cell}
 use Rattle.im_matrix.specs.declared.Dim.TheVariants.{One, Two}
 use Rattle.plane_laws.specs.Plane.{Point}
@@ -20,61 +21,55 @@ use Rattle.cell_laws.proofs.Directions.Middles.{middle_in_sector, HasMiddle, mid
 use Rattle.cell_laws.proofs.Germs.Along.{pair_germ_of_way}
 use Rattle.cell_laws.proofs.Germs.Sectors.{sector_is_one}
 
+-- a cell is the germ along the ray at a place
+pub record IsAlongRay (rays : List Dir) (a b : Figure) (rule : Rule) (v : Point) (i : ℕ) (c : Cell) : Type 0 where
+  pub ray : Dir
+  pub ray_is : IsAtPlace rays i ray
+  pub germ : IsPairGerm a b rule v (direction_of ray) c
+
+-- or along a direction of the sector at a place
+pub record IsWithinSector (rays : List Dir) (a b : Figure) (rule : Rule) (v : Point) (i : ℕ) (c : Cell) : Type 0 where
+  pub below : i < sectors_of rays
+  pub d : Direction
+  pub within : IsInSector rays i d
+  pub germ : IsPairGerm a b rule v d c
+
 module _ (a b : Figure) (valid : AreValid a b) (rule : Rule) (v : Point) (rays : List Dir)
     (are : AreEdgeDirections v (segs_of_both a b) rays) where
-  -- a cell is the germ along one of the rays
-  pub record IsAlongRay (c : Cell) : Type 0 where
-    pub i : ℕ
-    pub ray : Dir
-    pub ray_is : IsAtPlace rays i ray
-    pub germ : IsPairGerm a b rule v (direction_of ray) c
-
-  -- and then it is a sample of dimension One
-  pub sample_along : (c : Cell) → IsAlongRay c → IsSampleAt a b rule v c One
-  sample_along c h = record { rays = rays; rays_are = are; i = h.i; ray = h.ray; ray_is = h.ray_is; germ = h.germ }
+  -- along a ray it is a sample of dimension One
+  pub sample_along : (i : ℕ) (c : Cell) → IsAlongRay rays a b rule v i c → IsSampleAt a b rule v c One
+  sample_along i c h = record { rays = rays; rays_are = are; i = i; ray = h.ray; ray_is = h.ray_is; germ = h.germ }
 
   -- each of these is one
-  pub along_sample : (c : Cell) → IsSampleAt a b rule v c One → IsAlongRay c
+  pub along_sample : (c : Cell) → IsSampleAt a b rule v c One → (i : ℕ) × (i < length rays) × IsAlongRay rays a b rule v i c
   along_sample c s =
       let k : HasRay rays (direction_of s.ray) =
       ray_at_run v (segs_of_both a b) rays are (direction_of s.ray) (run_at v (segs_of_both a b) s.rays s.rays_are s.i s.ray s.ray_is) in
-      record {
-        i = k.place;
-        ray = k.ray;
-        ray_is = k.is;
-        germ = pair_germ_of_way a b valid rule v (direction_of s.ray) (direction_of k.ray) k.same c s.germ;
-      }
+      let germ = pair_germ_of_way a b valid rule v (direction_of s.ray) (direction_of k.ray) k.same c s.germ in
+      (k.place, slice_get_within rays k.place k.ray k.is, record { ray = k.ray; ray_is = k.is; germ = germ })
 
-  -- a cell is the germ along a direction of one of the sectors
-  pub record IsInSomeSector (c : Cell) : Type 0 where
-    pub i : ℕ
-    pub below : i < sectors_of rays
-    pub d : Direction
-    pub within : IsInSector rays i d
-    pub germ : IsPairGerm a b rule v d c
-
-  -- and then it is a sample of dimension Two, since a sector has one germ
-  pub sample_within : (c : Cell) → IsInSomeSector c → IsSampleAt a b rule v c Two
-  sample_within c h =
-      let k : HasMiddle rays h.i = middle_of rays h.i h.below in
+  -- in a sector it is a sample of dimension Two, since a sector has one germ
+  pub sample_within : (i : ℕ) (c : Cell) → IsWithinSector rays a b rule v i c → IsSampleAt a b rule v c Two
+  sample_within i c h =
+      let k : HasMiddle rays i = middle_of rays i h.below in
       record {
         rays = rays;
         rays_are = are;
-        i = h.i;
+        i = i;
         sector = h.below;
         middle = k.m;
         middle_is = k.is;
         germ =
-            (sector_is_one a b valid rule v rays are.rays_at h.i h.below h.d k.m h.within (middle_in_sector rays h.i k.m k.is) c
-            h.germ).0;
+            (sector_is_one a b valid rule v rays are.rays_at i h.below h.d k.m h.within (middle_in_sector rays i k.m k.is) c h.germ).0;
       }
 
   -- each of these is one
-  pub within_sample : (c : Cell) → IsSampleAt a b rule v c Two → IsInSomeSector c
+  pub within_sample : (c : Cell) → IsSampleAt a b rule v c Two → (i : ℕ) × (i < sectors_of rays) × IsWithinSector rays a b rule v i c
   within_sample c s = by_case (sector_of_direction v (segs_of_both a b) rays are s.middle)
     where
-      by_case : RunsFrom v (segs_of_both a b) s.middle ⊎ HasSector rays s.middle → IsInSomeSector c
+      by_case : RunsFrom v (segs_of_both a b) s.middle ⊎ HasSector rays s.middle
+          → (i : ℕ) × (i < sectors_of rays) × IsWithinSector rays a b rule v i c
       by_case (inl run) =
           absurd (sector_free v (segs_of_both a b) s.rays s.rays_are.rays_at s.i s.middle
           (middle_in_sector s.rays s.i s.middle s.middle_is) run)
-      by_case (inr k) = record { i = k.i; below = k.below; d = s.middle; within = k.within; germ = s.germ }
+      by_case (inr k) = (k.i, k.below, record { below = k.below; d = s.middle; within = k.within; germ = s.germ })

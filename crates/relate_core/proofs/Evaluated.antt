@@ -1,5 +1,5 @@
 -- What an evaluation promises, from what its parts promise: first the envelopes of two figures and their common part, then the near nodes.
-use Rattle.std.proofs.Common.{◌≡◌, ◌⊎◌, ℕ, ◌∙◌, subst}
+use Rattle.std.proofs.Common.{◌≡◌, ◌⊎◌, ℕ, ◌∙◌, subst₂}
 use Rattle.std.specs.Prelude.{Option}
 use Rattle.im_matrix.specs.Cells.{dimension_at, start_dimension}
 use Rattle.im_matrix.specs.declared.Cell.{Cell}
@@ -30,64 +30,73 @@ use Rattle.box_laws.proofs.Envelopes.Frames.{frames_hold_common_part}
 use Rattle.near_laws.proofs.Far.Shows.{far_shows_no_more}
 use Rattle.relate_core.proofs.Taking.{taken_either}
 
-module _ (a b : Figure) (valid : AreValid a b) (rule : Rule) (query : Query) (x y : Extent) (is_x : IsExtent a rule x)
-    (is_y : IsExtent b rule y) (u v w : Option Window)
-    (frame_x : u ≡ frame x) (frame_y : v ≡ frame y) (common : IsCommonPart u v w) (fresh far : Progress)
-    (value : (m : Matrix) → value_at fresh m ≡ value_of query (dimension_of a) (dimension_of b) m)
-    (start : (c : Cell) → dimension_at (matrix_of fresh) c ≡ start_dimension c)
-    (taken_far : HasTakenIn (λ c d. d ≡ beyond_cell x y w c) fresh far) where
+-- What is known of a query's progress when the envelopes of two figures and the common part of their frames have been taken in.
+pub record IsFarTaken (a b : Figure) (rule : Rule) (query : Query) (w : Option Window) (far : Progress) : Type 0 where
+  pub valid : AreValid a b
+  pub x : Extent
+  pub y : Extent
+  pub is_x : IsExtent a rule x
+  pub is_y : IsExtent b rule y
+  pub frame_x : Option Window
+  pub frame_y : Option Window
+  pub is_frame_x : frame_x ≡ frame x
+  pub is_frame_y : frame_y ≡ frame y
+  pub common : IsCommonPart frame_x frame_y w
+  pub fresh : Progress
+  pub value : (m : Matrix) → value_at fresh m ≡ value_of query (dimension_of a) (dimension_of b) m
+  pub start : (c : Cell) → dimension_at (matrix_of fresh) c ≡ start_dimension c
+  pub taken : HasTakenIn (λ c d. d ≡ beyond_cell x y w c) fresh far
+
+module _ {a b : Figure} {rule : Rule} {query : Query} {w : Option Window} {far : Progress} (k : IsFarTaken a b rule query w far) where
   -- the box holds the common part of the figures
   holds : HoldsCommonPart a b rule w
   holds =
-      frames_hold_common_part a b valid.a_shaped valid.b_shaped rule x y is_x is_y w
-      (in_both u (frame x) frame_x v (frame y) frame_y common)
-    where
-      in_both : (u s : Option Window) → u ≡ s → (v t : Option Window) → v ≡ t → IsCommonPart u v w → IsCommonPart s t w
-      in_both u s e v t f h = subst (λ z. IsCommonPart z t w) e (subst (λ z. IsCommonPart u z w) f h)
+      frames_hold_common_part a b k.valid.a_shaped k.valid.b_shaped rule k.x k.y k.is_x k.is_y w
+      (subst₂ (λ u v. IsCommonPart u v w) k.is_frame_x k.is_frame_y k.common)
 
   -- ---- looks
   -- a run over the near nodes has few
-  pub few_looks : (before after : ℕ) → IsNearRun w a b rule far before after
+  pub few_looks : {before after : ℕ} → IsNearRun w a b rule far before after
       → AreLooksFew a b rule query (dimension_of a) (dimension_of b) before after
-  few_looks =
-      looks_are_few a b valid rule query (dimension_of a) (dimension_of b) w (beyond_cell x y w) (near_window_decided w)
-      (far_shows_no_more a b valid rule x y is_x is_y w holds) fresh far value start taken_far
+  few_looks {before} {after} run =
+      looks_are_few a b k.valid rule query (dimension_of a) (dimension_of b) w (beyond_cell k.x k.y w) (near_window_decided w)
+      (far_shows_no_more a b k.valid rule k.x k.y k.is_x k.is_y w holds) k.fresh far k.value k.start k.taken before after run
 
   -- ---- the answer
-  module _ (last : Progress) (taken_near : HasTakenIn (IsSample (IsNearNode w a b) a b rule) far last) (answer : Answer)
+  module _ {last : Progress} (taken_near : HasTakenIn (IsSample (IsNearNode w a b) a b rule) far last) {answer : Answer}
       (is : answer ≡ value_at last (matrix_of last)) where
     -- all that is known has been taken in
-    abbrev taken : HasTakenIn (λ c d. (d ≡ beyond_cell x y w c) ⊎ IsSample (IsNearNode w a b) a b rule c d) fresh last
+    abbrev taken : HasTakenIn (λ c d. (d ≡ beyond_cell k.x k.y w c) ⊎ IsSample (IsNearNode w a b) a b rule c d) k.fresh last
     taken =
-        taken_either (λ c d. d ≡ beyond_cell x y w c) (IsSample (IsNearNode w a b) a b rule) fresh far last taken_far taken_near
+        taken_either (λ c d. d ≡ beyond_cell k.x k.y w c) (IsSample (IsNearNode w a b) a b rule) k.fresh far last k.taken taken_near
 
     -- it is the value on the matrix of the two point sets
     pub answer_of_points : IsAnswerTo query a b rule answer
     answer_of_points = record {
-      m = (decided_by_samples a b valid rule).matrix;
-      of_points = (decided_by_samples a b valid rule).of_points;
+      m = (decided_by_samples a b k.valid rule).matrix;
+      of_points = (decided_by_samples a b k.valid rule).of_points;
       answer_is =
           is
-          ∙ value_is a b valid rule x y is_x is_y w holds query
-          (dimension_of a) (dimension_of b) fresh last value start taken;
+          ∙ value_is a b k.valid rule k.x k.y k.is_x k.is_y w holds query
+          (dimension_of a) (dimension_of b) k.fresh last k.value k.start taken;
     }
 
     -- and on that of the samples
     pub answer_of_samples : IsValueOnSamples a b rule query answer
     answer_of_samples m of_samples =
         is
-        ∙ value_on_samples a b valid rule x y is_x is_y w holds query
-        (dimension_of a) (dimension_of b) fresh last value start taken m of_samples
+        ∙ value_on_samples a b k.valid rule k.x k.y k.is_x k.is_y w holds query
+        (dimension_of a) (dimension_of b) k.fresh last k.value k.start taken m of_samples
 
     -- which is the answer itself where it is asked for
     pub answer_of_relate : query ≡ Relate → IsSampleMatrixItself a b rule answer
     answer_of_relate asks = record {
       m = matrix_of last;
       of_samples =
-          matrix_is a b valid rule x y is_x is_y w holds query
-          (dimension_of a) (dimension_of b) fresh last value start taken asks;
+          matrix_is a b k.valid rule k.x k.y k.is_x k.is_y w holds query
+          (dimension_of a) (dimension_of b) k.fresh last k.value k.start taken asks;
       answer_is =
           is
-          ∙ answer_is_matrix a b valid rule x y is_x is_y w holds query
-          (dimension_of a) (dimension_of b) fresh last value start taken asks;
+          ∙ answer_is_matrix a b k.valid rule k.x k.y k.is_x k.is_y w holds query
+          (dimension_of a) (dimension_of b) k.fresh last k.value k.start taken asks;
     }

@@ -67,13 +67,14 @@ pub as_read : (f : Figure) (w : Window) (items places : List ℕ) → items ≡ 
     → ArePlacesIn w (edges_of_figure f) items
 as_read f w items places same near = subst (λ (xs : List ℕ). ArePlacesIn w (edges_of_figure f) xs) (sym same) near
 
-module _ (f : Figure) (w : Window) (places : List ℕ) (near : ArePlacesIn w (edges_of_figure f) places) where
-  -- each is the place of an edge
-  pub place_within : (k : ℕ) (d : ℕ) → k < length places → get_or places k d < length (edges_of_figure f)
-  place_within k d below =
-      let m = near.meet k d below in
-      slice_get_within (edges_of_figure f) (get_or places k d) m.edge m.edge_is
+-- and each is the place of an edge
+pub place_within : {edges : List OwnedEdge} {w : Window} {items places : List ℕ} → items ≡ places → ArePlacesIn w edges places → {k : ℕ}
+    → k < length items → get_or items k 0 < length edges
+place_within {edges} {w} {items} same near {k} below =
+    let m = (subst (ArePlacesIn w edges) (sym same) near).meet k 0 below in
+    slice_get_within edges (get_or items k 0) m.edge m.edge_is
 
+module _ (f : Figure) (w : Window) (places : List ℕ) (near : ArePlacesIn w (edges_of_figure f) places) where
   -- a place that meets the window is there
   pub place_in : (place : ℕ) → MeetsAtPlace w (edges_of_figure f) place → HasPlaceIn places place
   place_in place meets =

@@ -160,19 +160,7 @@ module _ (a b : Figure) (valid : AreValid a b) (rule : Rule) where
       (of_old old now p q h) (λ c d s. s) (λ c d s. inr s) p q q h.taken k
 
   -- ---- the count
-  -- no more looks than entries that were visited
-  pub run_so_far : (old now : List Entry) (p q : Progress) → HasVisited a b rule old now p q → (before after : ℕ)
-      → after + length now ≤ before + length old → IsRunOf a b rule old p before after
-  run_so_far old now p q h before after few =
-      let all : length old ≡ length h.visited + length now = (λ j. length (h.parts j)) ∙ length-append h.visited now in
-      record {
-        entered = length h.visited;
-        within = omega (arith, all);
-        risen = omega (arith, all, few);
-        was_open = h.was_open;
-      }
-
-  -- nor than these and the next, before which the query was open
+  -- no more looks than entries that were visited, and the next, before which the query was open
   pub run_and_next : (old now : List Entry) (e : Entry) (p q : Progress) → HasVisited a b rule old (e ∷ now) p q → IsOpen q
       → (before after : ℕ) → after + length now ≤ before + length old → IsRunOf a b rule old p before after
   run_and_next old now e p q h is_open before after few =
@@ -183,3 +171,10 @@ module _ (a b : Figure) (valid : AreValid a b) (rule : Rule) where
         risen = omega (arith, all, few);
         was_open = opened old (e ∷ now) p q h is_open;
       }
+
+-- no more looks than entries that were visited
+pub run_so_far : {a b : Figure} {rule : Rule} {old now : List Entry} {p q : Progress} → HasVisited a b rule old now p q
+    → {before after : ℕ} → after + length now ≤ before + length old → IsRunOf a b rule old p before after
+run_so_far {old} {now} h few =
+    let all : length old ≡ length h.visited + length now = (λ j. length (h.parts j)) ∙ length-append h.visited now in
+    record { entered = length h.visited; within = omega (arith, all); risen = omega (arith, all, few); was_open = h.was_open }

@@ -1,10 +1,11 @@
 -- A matrix of the samples at some points can't fail to exist.
-use Rattle.std.proofs.Common.{◌≡◌, ◌≤◌, ◌⊎◌, refl, sym, subst, arith}
+use Rattle.std.proofs.Common.{◌≡◌, ◌≤◌, ◌+◌, ◌⊎◌, inl, inr, ℕ, zero, suc, refl, sym, subst, arith}
+use Rattle.std.proofs.lemmas.Bool.{cases_lt}
 use Rattle.im_matrix.proofs.Laws.{rank-most, matrix_by, dimension_at-matrix_by}
 use Rattle.im_matrix.specs.Cells.{rank, cell, start_dimension}
 use Rattle.im_matrix.specs.declared.Cell.{Cell}
 use Rattle.im_matrix.specs.declared.Dim.{Dim}
-use Rattle.im_matrix.specs.declared.Dim.TheVariants.{Empty, Zero, One, Two}
+use Rattle.im_matrix.specs.declared.Dim.TheVariants.{Empty, Two}
 use Rattle.im_matrix.specs.declared.Loc.{Loc}
 use Rattle.im_matrix.specs.declared.Loc.TheVariants.{Interior, Boundary, Exterior}
 use Rattle.im_matrix.specs.declared.Matrix.{Matrix}
@@ -14,39 +15,16 @@ use Rattle.point_set.specs.declared.rule.Rule.{Rule}
 use Rattle.point_set.specs.Samples.{IsGreatest, IsSample, IsMatrixOfSamples}
 
 -- ---- the greatest of some dimensions
--- there can't be none: Two, or else One, or else Zero, or else Empty
+-- there can't be none: a dimension with one above it gives way to that one, and nothing is above Two
 greatest_is : (Is : Dim → Type 0) → ¬ ¬ ((d : Dim) × IsGreatest Is d)
-greatest_is Is none = no_empty
+greatest_is Is none = none (Empty, record { one = λ apart. absurd (apart refl); most = most (rank Two) Empty (omega arith) })
   where
-    no_two : ¬ Is Two
-    no_two is = none (Two, record { one = λ apart. is; most = λ e h. rank-most e })
-
-    no_one : ¬ Is One
-    no_one is = none (One, record { one = λ apart. is; most = most })
-      where
-        most : (e : Dim) → Is e → rank e ≤ rank One
-        most Two h = absurd (no_two h)
-        most One h = omega arith
-        most Zero h = omega arith
-        most Empty h = omega arith
-
-    no_zero : ¬ Is Zero
-    no_zero is = none (Zero, record { one = λ apart. is; most = most })
-      where
-        most : (e : Dim) → Is e → rank e ≤ rank Zero
-        most Two h = absurd (no_two h)
-        most One h = absurd (no_one h)
-        most Zero h = omega arith
-        most Empty h = omega arith
-
-    no_empty : ⊥
-    no_empty = none (Empty, record { one = λ apart. absurd (apart refl); most = most })
-      where
-        most : (e : Dim) → Is e → rank e ≤ rank Empty
-        most Two h = absurd (no_two h)
-        most One h = absurd (no_one h)
-        most Zero h = absurd (no_zero h)
-        most Empty h = omega arith
+    most : (n : ℕ) (d : Dim) → rank Two ≤ rank d + n → (e : Dim) → Is e → rank e ≤ rank d
+    most zero d near e h = omega (arith, near, rank-most e)
+    most (suc n) d near e h = elim (cases_lt (rank d) (rank e)) [
+      | inl above ↦ absurd (none (e, record { one = λ apart. h; most = most n e (omega (arith, near, above)) }))
+      | inr below ↦ below
+    ]
 
 -- ---- the matrix
 -- what can't fail for one part can't fail for all together

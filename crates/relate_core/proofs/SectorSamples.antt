@@ -54,6 +54,12 @@ off_boundary f shaped rule p off at = by_kind at.decided_by at.decides at.gives
     by_kind kind.Exterior is e = cc
 
 -- ---- in a sector
+-- the way along its middle is free
+free_middle : (a b : Figure) (rule : Rule) (v : Point) (c : Cell) → (s : IsSeenInSector a b rule v c) → HasFreeWay a b v s.middle s.middle
+free_middle a b rule v c s =
+    let within = middle_in_sector s.rays s.i s.middle s.middle_is in
+    free_along a b v s.middle (sector_free v (segs_of_both a b) s.rays s.rays_are.rays_at s.i s.middle within)
+
 module _ (a b : Figure) (shaped : IsWellShaped a) (rule : Rule) where
   -- a near point along its middle is off all edges
   no_boundary : (v : Point) (c : Cell) → IsSeenInSector a b rule v c → ¬ (c.a ≡ Boundary)
@@ -62,9 +68,7 @@ module _ (a b : Figure) (shaped : IsWellShaped a) (rule : Rule) where
       (subst (IsLocation a rule p) e (s.germ.holds (suc n) (omega arith) p (away_point_is v s.middle n)).in_a)
     where
       way : HasFreeWay a b v s.middle s.middle
-      way =
-          free_along a b v s.middle
-          (sector_free v (segs_of_both a b) s.rays s.rays_are.rays_at s.i s.middle (middle_in_sector s.rays s.i s.middle s.middle_is))
+      way = free_middle a b rule v c s
 
       n : ℕ
       n = s.germ.from + way.from

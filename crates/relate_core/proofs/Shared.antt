@@ -35,18 +35,15 @@ shared_by_sides u v w lx ly hx hy p = (held, λ h. (within_holds in_first p h, w
         at_most x m n high e h k =
             subst (λ (z : ℤ). x ≤ℤ (z *ℤ p.w)) (sym e) (of_either (λ z. x ≤ℤ (z *ℤ p.w)) (int_lt n m) n m k h)
 
+    within : (z : Window) → z.low_x ≤ℤ w.low_x → z.low_y ≤ℤ w.low_y → w.high_x ≤ℤ z.high_x → w.high_y ≤ℤ z.high_y → IsWithin w z
+    within z l b r t = record { left = l; right = r; bottom = b; top = t }
+
     in_first : IsWithin w u
-    in_first = record {
-      left = omega (arith, ints, clamps, lx);
-      right = omega (arith, ints, clamps, hx);
-      bottom = omega (arith, ints, clamps, ly);
-      top = omega (arith, ints, clamps, hy);
-    }
+    in_first =
+        within u (omega (arith, ints, clamps, lx)) (omega (arith, ints, clamps, ly)) (omega (arith, ints, clamps, hx))
+        (omega (arith, ints, clamps, hy))
 
     in_second : IsWithin w v
-    in_second = record {
-      left = omega (arith, ints, clamps, lx);
-      right = omega (arith, ints, clamps, hx);
-      bottom = omega (arith, ints, clamps, ly);
-      top = omega (arith, ints, clamps, hy);
-    }
+    in_second =
+        within v (omega (arith, ints, clamps, lx)) (omega (arith, ints, clamps, ly)) (omega (arith, ints, clamps, hx))
+        (omega (arith, ints, clamps, hy))

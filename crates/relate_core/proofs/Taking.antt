@@ -14,11 +14,12 @@ use Rattle.topo_pred.specs.Values.{query_of, matrix_of, value_at, IsSettled, IsO
 use Rattle.relate_core.specs.Taking.{HasTakenIn, IsOne}
 
 -- ---- some and then others
--- the same dimensions under another name
-pub taken_alike :
-    (First Second : Cell → Dim → Type 0) → ((c : Cell) (d : Dim) → First c d → Second c d)
-    → ((c : Cell) (d : Dim) → Second c d → First c d) → (p q : Progress) → HasTakenIn First p q → HasTakenIn Second p q
-taken_alike First Second one back p q h = record {
+-- what the matrix has from the first need not be taken in
+pub taken_with_known :
+    (First All : Cell → Dim → Type 0) → (p q : Progress) → ((c : Cell) (d : Dim) → First c d → All c d)
+    → ((c : Cell) (d : Dim) → All c d → First c d ⊎ (rank d ≤ rank (dimension_at (matrix_of p) c))) → HasTakenIn First p q
+    → HasTakenIn All p q
+taken_with_known First All p q one known h = record {
   query = h.query;
   value = h.value;
   kept = h.kept;
@@ -27,14 +28,25 @@ taken_alike First Second one back p q h = record {
 }
   where
     only : (c : Cell) → (dimension_at (matrix_of q) c ≡ dimension_at (matrix_of p) c) ⊎ First c (dimension_at (matrix_of q) c)
-        → (dimension_at (matrix_of q) c ≡ dimension_at (matrix_of p) c) ⊎ Second c (dimension_at (matrix_of q) c)
+        → (dimension_at (matrix_of q) c ≡ dimension_at (matrix_of p) c) ⊎ All c (dimension_at (matrix_of q) c)
     only c (inl e) = inl e
     only c (inr s) = inr (one c (dimension_at (matrix_of q) c) s)
 
     whole : ((v : Bool) × IsSettled q v) ⊎ ((c : Cell) (d : Dim) → First c d → rank d ≤ rank (dimension_at (matrix_of q) c))
-        → ((v : Bool) × IsSettled q v) ⊎ ((c : Cell) (d : Dim) → Second c d → rank d ≤ rank (dimension_at (matrix_of q) c))
+        → ((v : Bool) × IsSettled q v) ⊎ ((c : Cell) (d : Dim) → All c d → rank d ≤ rank (dimension_at (matrix_of q) c))
     whole (inl s) = inl s
-    whole (inr f) = inr (λ c d s. f c d (back c d s))
+    whole (inr f) = inr (λ c d s. each c d (known c d s))
+      where
+        each : (c : Cell) (d : Dim) → First c d ⊎ (rank d ≤ rank (dimension_at (matrix_of p) c))
+            → rank d ≤ rank (dimension_at (matrix_of q) c)
+        each c d (inl s) = f c d s
+        each c d (inr low) = let more = h.kept c in omega (arith, low, more)
+
+-- so the same dimensions may have another name
+pub taken_alike :
+    (First Second : Cell → Dim → Type 0) → ((c : Cell) (d : Dim) → First c d → Second c d)
+    → ((c : Cell) (d : Dim) → Second c d → First c d) → (p q : Progress) → HasTakenIn First p q → HasTakenIn Second p q
+taken_alike First Second one back p q h = taken_with_known First Second p q one (λ c d s. inl (back c d s)) h
 
 -- taking in some dimensions and then others is taking in both
 pub taken_together :
@@ -77,34 +89,6 @@ pub taken_either :
     → HasTakenIn (λ c d. First c d ⊎ Second c d) p r
 taken_either First Second p q r h k =
     taken_together First Second (λ c d. First c d ⊎ Second c d) (λ c d s. inl s) (λ c d s. inr s) (λ c d s. s) p q r h k
-
--- and what the matrix has from the first need not be taken in
-pub taken_with_known :
-    (First All : Cell → Dim → Type 0) → (p q : Progress) → ((c : Cell) (d : Dim) → First c d → All c d)
-    → ((c : Cell) (d : Dim) → All c d → First c d ⊎ (rank d ≤ rank (dimension_at (matrix_of p) c))) → HasTakenIn First p q
-    → HasTakenIn All p q
-taken_with_known First All p q one known h = record {
-  query = h.query;
-  value = h.value;
-  kept = h.kept;
-  only = λ c. only c (h.only c);
-  whole = whole h.whole;
-}
-  where
-    only : (c : Cell) → (dimension_at (matrix_of q) c ≡ dimension_at (matrix_of p) c) ⊎ First c (dimension_at (matrix_of q) c)
-        → (dimension_at (matrix_of q) c ≡ dimension_at (matrix_of p) c) ⊎ All c (dimension_at (matrix_of q) c)
-    only c (inl e) = inl e
-    only c (inr s) = inr (one c (dimension_at (matrix_of q) c) s)
-
-    whole : ((v : Bool) × IsSettled q v) ⊎ ((c : Cell) (d : Dim) → First c d → rank d ≤ rank (dimension_at (matrix_of q) c))
-        → ((v : Bool) × IsSettled q v) ⊎ ((c : Cell) (d : Dim) → All c d → rank d ≤ rank (dimension_at (matrix_of q) c))
-    whole (inl s) = inl s
-    whole (inr f) = inr (λ c d s. each c d (known c d s))
-      where
-        each : (c : Cell) (d : Dim) → First c d ⊎ (rank d ≤ rank (dimension_at (matrix_of p) c))
-            → rank d ≤ rank (dimension_at (matrix_of q) c)
-        each c d (inl s) = f c d s
-        each c d (inr low) = let more = h.kept c in omega (arith, low, more)
 
 -- ---- nothing
 -- where there is nothing to take in

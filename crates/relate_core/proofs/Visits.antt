@@ -1,7 +1,6 @@
 -- What the steps of the loops over the rays of a node and over its sectors take in.
 use Rattle.std.proofs.Common.{◌≡◌, ◌⊎◌, inl, inr, ℕ, ◌+◌, ◌<◌, ◌≤◌, List, length, refl, sym, subst, arith}
 use Rattle.std.proofs.lemmas.Bool.{cases_lt}
-use Rattle.std.proofs.lemmas.Option.{slice_get_within}
 use Rattle.im_matrix.specs.declared.Cell.{Cell}
 use Rattle.im_matrix.specs.declared.Dim.{Dim}
 use Rattle.im_matrix.specs.declared.Dim.TheVariants.{Empty, Zero, One, Two}
@@ -9,189 +8,121 @@ use Rattle.plane_laws.specs.Plane.{Point}
 use Rattle.plane_laws.specs.Directions.{Direction}
 use Rattle.plane_exact.specs.Orders.{direction_of}
 use Rattle.plane_exact.specs.declared.dir.Dir.{Dir}
+use Rattle.point_set.specs.declared.dim_loc.DimLoc.{DimLoc}
 use Rattle.point_set.specs.declared.figure.Figure.{Figure}
 use Rattle.point_set.specs.declared.rule.Rule.{Rule}
 use Rattle.point_set.specs.Germ.{IsPairGerm}
-use Rattle.point_set.specs.Nodes.{segs_of_both, AreEdgeDirections}
 use Rattle.point_set.specs.Relation.{IsInCell}
 use Rattle.point_set.specs.Samples.{IsSampleAt}
 use Rattle.point_set.specs.Sectors.{IsInSector, sectors_of}
 use Rattle.point_set.specs.Validity.{IsAtPlace}
-use Rattle.point_set.specs.Visible.{AreValid}
 use Rattle.figure_laws.proofs.Points.Kinds.{one_part}
-use Rattle.germ_laws.proofs.Rays.Places.{HasItem, item_at}
+use Rattle.germ_laws.proofs.Rays.Places.{item_at}
 use Rattle.ring_laws.proofs.Germs.Areas.{pair_germ_one}
-use Rattle.cell_laws.proofs.Directions.Middles.{middle_in_sector, HasMiddle, middle_of}
+use Rattle.cell_laws.proofs.Directions.Middles.{middle_in_sector, middle_of}
 use Rattle.topo_pred.specs.declared.Progress.{Progress}
+use Rattle.fan_order.specs.declared.section.Section.{Section}
+use Rattle.fan_order.specs.Rays.{AreRaysOf}
+use Rattle.fan_laws.proofs.Fans.Directions.{edge_directions}
+use Rattle.fan_label.specs.Seen.{AreSeenAt}
 use Rattle.relate_core.specs.Taking.{HasTakenIn, IsOne, IsSampleOf}
-use Rattle.relate_core.proofs.Contributions.{sample_along, along_sample, sample_within, within_sample}
+use Rattle.relate_core.proofs.Contributions.{IsAlongRay, IsWithinSector, sample_along, along_sample, sample_within, within_sample}
 use Rattle.relate_core.proofs.Taking.{taken_alike, taken_together, taken_nothing}
 
--- ---- the rays of a node, one by one
-module _ (a b : Figure) (rule : Rule) (v : Point) (rays : List Dir) where
-  -- a dimension One of a cell that is the germ along one of the rays before a place
-  pub record IsAlongBefore (n : ℕ) (c : Cell) (d : Dim) : Type 0 where
-    pub dim : d ≡ One
-    pub i : ℕ
-    pub ray : Dir
-    pub before : i < n
-    pub ray_is : IsAtPlace rays i ray
-    pub germ : IsPairGerm a b rule v (direction_of ray) c
+-- ---- the rays of a node, or its sectors, one by one
+-- a dimension of a cell that comes from one of the places before
+pub record IsBefore (From : ℕ → Cell → Type 0) (dim : Dim) (n : ℕ) (c : Cell) (d : Dim) : Type 0 where
+  pub is : d ≡ dim
+  pub i : ℕ
+  pub before : i < n
+  pub from : From i c
 
-  -- before the first ray there is none
-  pub along_none : (p : Progress) → HasTakenIn (IsAlongBefore 0) p p
-  along_none p = taken_nothing (IsAlongBefore 0) p (λ c d h. let below = h.before in omega (arith, below))
-
-  -- one ray more, with the germ along it
-  pub along_more : (n : ℕ) → n < length rays → (c : Cell)
-      → ((ray : Dir) → IsAtPlace rays n ray → IsPairGerm a b rule v (direction_of ray) c) → (p q r : Progress)
-      → HasTakenIn (IsAlongBefore n) p q → HasTakenIn (IsOne c One) q r → HasTakenIn (IsAlongBefore (n + 1)) p r
-  along_more n below c germ p q r h k =
-      taken_together (IsAlongBefore n) (IsOne c One) (IsAlongBefore (n + 1)) earlier here either p q r h k
+module _ {From : ℕ → Cell → Type 0} {dim : Dim} {n : ℕ} where
+  -- one place more, from which one cell comes
+  before_more : (c : Cell) → From n c → ((e : Cell) → From n e → e ≡ c) → (p q r : Progress) → HasTakenIn (IsBefore From dim n) p q
+      → HasTakenIn (IsOne c dim) q r → HasTakenIn (IsBefore From dim (n + 1)) p r
+  before_more c own one p q r h k =
+      taken_together (IsBefore From dim n) (IsOne c dim) (IsBefore From dim (n + 1)) earlier here either p q r h k
     where
-      at : HasItem rays n
-      at = item_at rays n below
+      earlier : (e : Cell) (d : Dim) → IsBefore From dim n e d → IsBefore From dim (n + 1) e d
+      earlier e d x = let before = x.before in record { is = x.is; i = x.i; before = omega (arith, before); from = x.from }
 
-      earlier : (e : Cell) (d : Dim) → IsAlongBefore n e d → IsAlongBefore (n + 1) e d
-      earlier e d x =
-          let before = x.before in
-          record { dim = x.dim; i = x.i; ray = x.ray; before = omega (arith, before); ray_is = x.ray_is; germ = x.germ }
+      here : (e : Cell) (d : Dim) → IsOne c dim e d → IsBefore From dim (n + 1) e d
+      here e d x = record { is = x.1; i = n; before = omega arith; from = subst (From n) (sym x.0) own }
 
-      here : (e : Cell) (d : Dim) → IsOne c One e d → IsAlongBefore (n + 1) e d
-      here e d x = record {
-        dim = x.1;
-        i = n;
-        ray = at.item;
-        before = omega arith;
-        ray_is = at.is;
-        germ = subst (λ z. IsPairGerm a b rule v (direction_of at.item) z) (sym x.0) (germ at.item at.is);
-      }
-
-      either : (e : Cell) (d : Dim) → IsAlongBefore (n + 1) e d → IsAlongBefore n e d ⊎ IsOne c One e d
+      either : (e : Cell) (d : Dim) → IsBefore From dim (n + 1) e d → IsBefore From dim n e d ⊎ IsOne c dim e d
       either e d x = by_place (cases_lt x.i n)
         where
-          by_place : (x.i < n) ⊎ (n ≤ x.i) → IsAlongBefore n e d ⊎ IsOne c One e d
-          by_place (inl less) =
-              inl (record { dim = x.dim; i = x.i; ray = x.ray; before = less; ray_is = x.ray_is; germ = x.germ })
+          by_place : (x.i < n) ⊎ (n ≤ x.i) → IsBefore From dim n e d ⊎ IsOne c dim e d
+          by_place (inl less) = inl (record { is = x.is; i = x.i; before = less; from = x.from })
           by_place (inr most) =
               let before = x.before in
               let same : x.i ≡ n = omega (arith, before, most) in
-              let there = subst (λ j. IsAtPlace rays j x.ray) same x.ray_is in
-              inr (pair_germ_one a b rule v (direction_of x.ray) e c x.germ (germ x.ray there), x.dim)
+              inr (one e (subst (λ j. From j e) same x.from), x.is)
 
-  -- ---- its sectors, one by one
-  -- a dimension Two of a cell that is the germ along a direction of one of the sectors before a place
-  pub record IsWithinBefore (n : ℕ) (c : Cell) (d : Dim) : Type 0 where
-    pub dim : d ≡ Two
-    pub i : ℕ
-    pub e : Direction
-    pub before : i < n
-    pub below : i < sectors_of rays
-    pub within : IsInSector rays i e
-    pub germ : IsPairGerm a b rule v e c
+  -- past the last place all that come from any
+  before_all : {Is : Cell → Type 0} {limit : ℕ} → limit ≤ n → ((i : ℕ) (c : Cell) → From i c → Is c)
+      → ((c : Cell) → Is c → (i : ℕ) × (i < limit) × From i c) → {p q : Progress} → HasTakenIn (IsBefore From dim n) p q
+      → HasTakenIn (λ c d. (d ≡ dim) × Is c) p q
+  before_all {Is} past is of {p} {q} h =
+      taken_alike (IsBefore From dim n) (λ c d. (d ≡ dim) × Is c) (λ c d x. (x.is, is x.i c x.from))
+      (λ c d x. let k = of c x.1 in record { is = x.0; i = k.0; before = omega (arith, k.1, past); from = k.2 }) p q h
 
-  -- before the first sector there is none
-  pub within_none : (p : Progress) → HasTakenIn (IsWithinBefore 0) p p
-  within_none p = taken_nothing (IsWithinBefore 0) p (λ c d h. let below = h.before in omega (arith, below))
+-- ---- wherever the node is seen
+-- At each node with these sections, where the figures' parts are these, what comes from the places before has been taken in.
+pub record AreTaken (From : Figure → Figure → Rule → Point → ℕ → Cell → Type 0) (dim : Dim) (at_a at_b : DimLoc)
+    (sections : List Section) (n : ℕ) (p q : Progress) : Type 0 where
+  pub taken : (a b : Figure) (rule : Rule) (v : Point) → AreSeenAt a b rule v at_a at_b sections
+      → HasTakenIn (IsBefore (From a b rule v) dim n) p q
+
+-- before the first place nothing
+pub none_taken : {From : Figure → Figure → Rule → Point → ℕ → Cell → Type 0} {dim : Dim} {at_a at_b : DimLoc} {sections : List Section}
+    (p : Progress) → AreTaken From dim at_a at_b sections 0 p p
+none_taken {From} {dim} p = record {
+  taken = λ a b rule v seen. taken_nothing (IsBefore (From a b rule v) dim 0) p (λ c d h. let below = h.before in omega (arith, below));
+}
+
+module _ {at_a at_b : DimLoc} {sections : List Section} {rays : List Dir} {n : ℕ} {p q : Progress} where
+  -- one ray more, with the germ along it
+  pub ray_taken : AreTaken (IsAlongRay rays) One at_a at_b sections n p q → n < length rays → {c e : Cell} → c ≡ e
+      → ((a b : Figure) (rule : Rule) (v : Point) → AreSeenAt a b rule v at_a at_b sections → (ray : Dir) → IsAtPlace rays n ray
+      → IsPairGerm a b rule v (direction_of ray) e) → {r : Progress} → HasTakenIn (IsOne c One) q r
+      → AreTaken (IsAlongRay rays) One at_a at_b sections (n + 1) p r
+  ray_taken h below {c} {e} same germ {r} k = record {
+    taken = λ a b rule v seen.
+        let at = item_at rays n below in
+        let here = λ (ray : Dir) (is : IsAtPlace rays n ray). subst (IsPairGerm a b rule v (direction_of ray)) (sym same) (germ a b rule v seen ray is) in
+        before_more c (record { ray = at.item; ray_is = at.is; germ = here at.item at.is })
+        (λ f x. pair_germ_one a b rule v (direction_of x.ray) f c x.germ (here x.ray x.ray_is)) p q r (h.taken a b rule v seen) k;
+  }
+
+  -- past the last ray all samples of dimension One at the node have been taken in
+  pub rays_all : AreTaken (IsAlongRay rays) One at_a at_b sections n p q → AreRaysOf sections rays → length rays ≤ n
+      → (a b : Figure) (rule : Rule) (v : Point) → AreSeenAt a b rule v at_a at_b sections → HasTakenIn (IsSampleOf One a b rule v) p q
+  rays_all h of past a b rule v seen =
+      let are = edge_directions a b v sections rays seen.sections_a seen.sections_b of in
+      before_all past (sample_along a b seen.valid rule v rays are) (along_sample a b seen.valid rule v rays are) (h.taken a b rule v seen)
 
   -- one sector more, with the germ along each of its directions
-  pub within_more : (n : ℕ) → n < sectors_of rays → (c : Cell)
-      → ((e : Direction) → IsInSector rays n e → IsPairGerm a b rule v e c) → (p q r : Progress)
-      → HasTakenIn (IsWithinBefore n) p q → HasTakenIn (IsOne c Two) q r → HasTakenIn (IsWithinBefore (n + 1)) p r
-  within_more n below c germ p q r h k =
-      taken_together (IsWithinBefore n) (IsOne c Two) (IsWithinBefore (n + 1)) earlier here either p q r h k
-    where
-      middle : HasMiddle rays n
-      middle = middle_of rays n below
-
-      within : IsInSector rays n middle.m
-      within = middle_in_sector rays n middle.m middle.is
-
-      earlier : (e : Cell) (d : Dim) → IsWithinBefore n e d → IsWithinBefore (n + 1) e d
-      earlier e d x =
-          let before = x.before in
-          record {
-            dim = x.dim;
-            i = x.i;
-            e = x.e;
-            before = omega (arith, before);
-            below = x.below;
-            within = x.within;
-            germ = x.germ;
-          }
-
-      here : (e : Cell) (d : Dim) → IsOne c Two e d → IsWithinBefore (n + 1) e d
-      here e d x = record {
-        dim = x.1;
-        i = n;
-        e = middle.m;
-        before = omega arith;
-        below = below;
-        within = within;
-        germ = subst (λ z. IsPairGerm a b rule v middle.m z) (sym x.0) (germ middle.m within);
-      }
-
-      either : (e : Cell) (d : Dim) → IsWithinBefore (n + 1) e d → IsWithinBefore n e d ⊎ IsOne c Two e d
-      either e d x = by_place (cases_lt x.i n)
-        where
-          by_place : (x.i < n) ⊎ (n ≤ x.i) → IsWithinBefore n e d ⊎ IsOne c Two e d
-          by_place (inl less) = inl (record {
-            dim = x.dim;
-            i = x.i;
-            e = x.e;
-            before = less;
-            below = x.below;
-            within = x.within;
-            germ = x.germ;
-          })
-          by_place (inr most) =
-              let before = x.before in
-              let same : x.i ≡ n = omega (arith, before, most) in
-              let there = subst (λ j. IsInSector rays j x.e) same x.within in
-              inr (pair_germ_one a b rule v x.e e c x.germ (germ x.e there), x.dim)
-
--- ---- all rays and all sectors of a node
-module _ (a b : Figure) (valid : AreValid a b) (rule : Rule) (v : Point) (rays : List Dir)
-    (are : AreEdgeDirections v (segs_of_both a b) rays) where
-  -- past the last ray all samples of dimension One at the node have been taken in
-  pub rays_all : (n : ℕ) → length rays ≤ n → (p q : Progress) → HasTakenIn (IsAlongBefore a b rule v rays n) p q
-      → HasTakenIn (IsSampleOf One a b rule v) p q
-  rays_all n all p q h = taken_alike (IsAlongBefore a b rule v rays n) (IsSampleOf One a b rule v) sample along p q h
-    where
-      sample : (c : Cell) (d : Dim) → IsAlongBefore a b rule v rays n c d → IsSampleOf One a b rule v c d
-      sample c d x =
-          (x.dim, sample_along a b valid rule v rays are c (record { i = x.i; ray = x.ray; ray_is = x.ray_is; germ = x.germ }))
-
-      along : (c : Cell) (d : Dim) → IsSampleOf One a b rule v c d → IsAlongBefore a b rule v rays n c d
-      along c d x =
-          let k = along_sample a b valid rule v rays are c x.1 in
-          let below = slice_get_within rays k.i k.ray k.ray_is in
-          record { dim = x.0; i = k.i; ray = k.ray; before = omega (arith, below, all); ray_is = k.ray_is; germ = k.germ }
+  pub sector_taken : AreTaken (IsWithinSector rays) Two at_a at_b sections n p q → n < sectors_of rays → {c e : Cell} → c ≡ e
+      → ((a b : Figure) (rule : Rule) (v : Point) → AreSeenAt a b rule v at_a at_b sections → (d : Direction) → IsInSector rays n d
+      → IsPairGerm a b rule v d e) → {r : Progress} → HasTakenIn (IsOne c Two) q r
+      → AreTaken (IsWithinSector rays) Two at_a at_b sections (n + 1) p r
+  sector_taken h below {c} {e} same germ {r} k = record {
+    taken = λ a b rule v seen.
+        let middle = middle_of rays n below in
+        let within = middle_in_sector rays n middle.m middle.is in
+        let here = λ (d : Direction) (is : IsInSector rays n d). subst (IsPairGerm a b rule v d) (sym same) (germ a b rule v seen d is) in
+        before_more c (record { below = below; d = middle.m; within = within; germ = here middle.m within })
+        (λ f x. pair_germ_one a b rule v x.d f c x.germ (here x.d x.within)) p q r (h.taken a b rule v seen) k;
+  }
 
   -- past the last sector all of dimension Two
-  pub sectors_all : (n : ℕ) → sectors_of rays ≤ n → (p q : Progress) → HasTakenIn (IsWithinBefore a b rule v rays n) p q
-      → HasTakenIn (IsSampleOf Two a b rule v) p q
-  sectors_all n all p q h = taken_alike (IsWithinBefore a b rule v rays n) (IsSampleOf Two a b rule v) sample within p q h
-    where
-      sample : (c : Cell) (d : Dim) → IsWithinBefore a b rule v rays n c d → IsSampleOf Two a b rule v c d
-      sample c d x = (
-        x.dim,
-        sample_within a b valid rule v rays are c (record { i = x.i; below = x.below; d = x.e; within = x.within; germ = x.germ }),
-      )
-
-      within : (c : Cell) (d : Dim) → IsSampleOf Two a b rule v c d → IsWithinBefore a b rule v rays n c d
-      within c d x =
-          let k = within_sample a b valid rule v rays are c x.1 in
-          let below = k.below in
-          record {
-            dim = x.0;
-            i = k.i;
-            e = k.d;
-            before = omega (arith, below, all);
-            below = k.below;
-            within = k.within;
-            germ = k.germ;
-          }
+  pub sectors_all : AreTaken (IsWithinSector rays) Two at_a at_b sections n p q → AreRaysOf sections rays → sectors_of rays ≤ n
+      → (a b : Figure) (rule : Rule) (v : Point) → AreSeenAt a b rule v at_a at_b sections → HasTakenIn (IsSampleOf Two a b rule v) p q
+  sectors_all h of past a b rule v seen =
+      let are = edge_directions a b v sections rays seen.sections_a seen.sections_b of in
+      before_all past (sample_within a b seen.valid rule v rays are) (within_sample a b seen.valid rule v rays are) (h.taken a b rule v seen)
 
 -- ---- the three kinds of samples at a node
 -- dimension Zero of the node's own cell, or a sample along an edge direction

@@ -4,7 +4,7 @@ ghost use Rattle.im_matrix.specs.declared.Dim.TheVariants as dim;
 ghost use Rattle.im_matrix.specs.declared.Loc.TheVariants as loc;
 ghost use Rattle.near_laws.specs.Near as near;
 ghost use Rattle.topo_pred.specs.Values.{matrix_of};
-ghost use Rattle.relate_core.specs.Taking.{HasTakenIn};
+ghost use Rattle.relate_core.specs.Taking.{HasTakenIn, IsOne};
 
 use crate::edges::shared;
 use crate::samples::take_in_cell;
@@ -49,26 +49,17 @@ pub(crate) fn take_in_far(progress: &mut Progress, x: &Extent, y: &Extent, w: Op
     requires start { dimension_at (matrix_of progress.old) (cell loc.Exterior loc.Exterior) ≡ dim.Two }
     ensures taken { HasTakenIn (λ c d. d ≡ near.beyond_cell x.now y.now w c) progress.old progress.new }
 {
-    take_in_cell(
-        progress,
-        outside_b(Loc::Interior),
-        beyond(x, w, Loc::Interior),
-    );
-    take_in_cell(
-        progress,
-        outside_b(Loc::Boundary),
-        beyond(x, w, Loc::Boundary),
-    );
-    take_in_cell(
-        progress,
-        outside_a(Loc::Interior),
-        beyond(y, w, Loc::Interior),
-    );
-    take_in_cell(
-        progress,
-        outside_a(Loc::Boundary),
-        beyond(y, w, Loc::Boundary),
-    );
+    take_in_beyond(progress, outside_b(Loc::Interior), x, w, Loc::Interior);
+    take_in_beyond(progress, outside_b(Loc::Boundary), x, w, Loc::Boundary);
+    take_in_beyond(progress, outside_a(Loc::Interior), y, w, Loc::Interior);
+    take_in_beyond(progress, outside_a(Loc::Boundary), y, w, Loc::Boundary);
+}
+
+/// Takes in the dimension of what a part of a figure has outside of a box, in a cell.
+fn take_in_beyond(progress: &mut Progress, c: Cell, x: &Extent, w: Option<Window>, part: Loc)
+    ensures taken { HasTakenIn (IsOne c (near.beyond x.now w part)) progress.old progress.new }
+{
+    take_in_cell(progress, c, beyond(x, w, part));
 }
 
 /// The cell of a part of the first figure and the exterior of the second.

@@ -1,3 +1,5 @@
+#![tactic(auto, using(crate::proofs::Visits::none_taken))]
+
 ghost use Rattle.std.specs.Prelude.{◌≡◌, ◌+◌, ◌≤◌, OnOk, All};
 ghost use Rattle.im_matrix.specs.Cells.{cell};
 ghost use Rattle.im_matrix.specs.declared.Dim.TheVariants as dim;

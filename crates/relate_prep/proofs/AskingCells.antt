@@ -52,16 +52,6 @@ set_cases xs k place x y z at is = elim (cases_eq place k) [
   | inr differ ↦ inr (record { differ = differ; was = sym (set_other xs k place y differ) ∙ is })
 ]
 
--- a list has an item at each place within it
-pub record HasItem {X : Type 0} (xs : List X) (k : ℕ) : Type 0 where
-  pub item : X
-  pub at : IsAtPlace xs k item
-
-pub item_at : {X : Type 0} (xs : List X) (k : ℕ) → k < length xs → HasItem xs k
-item_at [] k below = absurd (omega (arith, below))
-item_at (x ∷ xs) zero below = record { item = x; at = refl }
-item_at (x ∷ xs) (suc k) below = let h = item_at xs k (omega (arith, below)) in record { item = h.item; at = h.at }
-
 -- ---- one cell, later
 later_refl : (c : SeenCell) → IsLater c c
 later_refl c = record { name = refl; known = λ x is. is; origin = λ asked. refl }
@@ -125,17 +115,19 @@ pub record AreAskedTo (areas : List Area) (p : Point) (old new : List SeenCell) 
   pub kept : AreKeptFar areas p old new
   pub asked : (i : ℕ) → i < count → (c : SeenCell) → IsAtPlace new (get_or places i 0) c → WasAsked c
 
--- and each cell is the one of its area
+-- and each cell is the one of its area, and the areas at the places are those that are near
 pub record IsAskedSo (f : Figure) (p : Point) (names : List ℕ) (old new : List SeenCell) (places : List ℕ) (count : ℕ) : Type 0 where
   pub cells : AreAreaCells f names new
+  pub near : AreShellsNear f.areas p places
   pub to : AreAskedTo f.areas p old new places count
 
 -- at first none was
 pub asked_none :
     (f : Figure) (p : Point) (names : List ℕ) (cells : List SeenCell) (places : List ℕ) → AreAreaCells f names cells
-    → IsAskedSo f p names cells cells places 0
-asked_none f p names cells places are = record {
+    → AreShellsNear f.areas p places → IsAskedSo f p names cells cells places 0
+asked_none f p names cells places are near = record {
   cells = are;
+  near = near;
   to = record {
     later = record { count = refl; each = λ place c d is_c is_d. subst (IsLater c) (some_same (sym is_c ∙ is_d)) (later_refl c) };
     kept = λ place area is far. refl;
@@ -151,28 +143,6 @@ kept_at areas p old new k area d kept at near place other is far = elim (cases_e
   | inl same ↦ absurd (far (subst (λ z. IsShellNear z p) (some_same (sym at ∙ ap (λ n. slice_get areas n) (sym same) ∙ is)) near))
   | inr differ ↦ set_other new k place d differ ∙ kept place other is far
 ]
-
--- the area at one of the places is near
-pub near_at :
-    (areas : List Area) (p : Point) (items places : List ℕ) → items ≡ places → AreShellsNear areas p places → (i : ℕ) → i < length items
-    → IsShellNearAt areas p (get_or items i 0)
-near_at areas p items places same near i below = (subst (AreShellsNear areas p) (sym same) near).near i 0 below
-
--- and it has a cell and the cell's name
-pub cell_within :
-    (f : Figure) (names : List ℕ) (cells : List SeenCell) → AreAreaCells f names cells → (p : Point) (place : ℕ)
-    → IsShellNearAt f.areas p place → place < length cells
-cell_within f names cells are p place near =
-    let within = slice_get_within f.areas place near.area near.area_is in
-    omega (arith, within, cells_count f names cells are)
-
-pub name_within :
-    {X : Type 0} (name : X → ℕ) (f : Figure) (xs : List X) (cells : List SeenCell) → AreAreaCells f (map name xs) cells → (p : Point)
-    (place : ℕ) → IsShellNearAt f.areas p place → place < length xs
-name_within name f xs cells are p place near =
-    let within = slice_get_within f.areas place near.area near.area_is in
-    let count = are.count in
-    omega (arith, within, count, length-map xs name)
 
 -- the one at the next place is asked for
 pub asked_here :
@@ -198,6 +168,53 @@ asked_here areas p old new places i c d to near at_c later asked = record {
     elsewhere j next b differ was (inr past) =
         let same : j ≡ i = omega (arith, next, past) in
         absurd (differ (ap (λ n. get_or places n 0) same))
+
+-- ---- the next place
+module _ {f : Figure} {p : Point} {names : List ℕ} {old new : List SeenCell} {places : List ℕ} {i : ℕ}
+    (h : IsAskedSo f p names old new places i) (below : i < length places) where
+  -- the area there has a cell
+  pub cell_within : get_or places i 0 < length new
+  cell_within =
+      let near = h.near.near i 0 below in
+      let within = slice_get_within f.areas (get_or places i 0) near.area near.area_is in
+      omega (arith, within, cells_count f names new h.cells)
+
+  -- and a name
+  pub name_within : get_or places i 0 < length names
+  name_within = let count = cells_count f names new h.cells in let named = h.cells.count in omega (arith, cell_within, count, named)
+
+  -- the cell that is read there
+  module _ {c : SeenCell} (is : c ≡ get_or new (get_or places i 0) c) where
+    at_place : IsAtPlace new (get_or places i 0) c
+    at_place = slice_get_read new (length new) (get_or places i 0) c refl cell_within is
+
+    -- it comes from the area's edges
+    pub origin_here :
+        IsOrigin (area_edges f (get_or places i 0)) (get_or new (get_or places i 0) c).known (get_or new (get_or places i 0) c).origin
+    origin_here =
+        subst (λ (z : SeenCell). IsOrigin (area_edges f (get_or places i 0)) z.known z.origin) is
+        (h.cells.origins (get_or places i 0) c at_place)
+
+    -- with it asked for, one place more is passed
+    pub asked_next : (d : SeenCell) → IsLater (get_or new (get_or places i 0) c) d
+        → IsOrigin (area_edges f (get_or places i 0)) d.known d.origin → WasAsked d
+        → IsAskedSo f p names old (set new (get_or places i 0) d) places (i + 1)
+    asked_next d later origin asked =
+        let from : IsLater c d = subst (λ (z : SeenCell). IsLater z d) (sym is) later in
+        record {
+          cells = cells_at f names new (get_or places i 0) c d h.cells at_place from.name origin;
+          near = h.near;
+          to = asked_here f.areas p old new places i c d h.to (h.near.near i 0 below) at_place from asked;
+        }
+
+-- it has the name there
+pub name_here : {X : Type 0} (name : X → ℕ) (xs : List X) {f : Figure} {p : Point} {old new : List SeenCell} {places : List ℕ} {i : ℕ}
+    → IsAskedSo f p (map name xs) old new places i → i < length places → {c : SeenCell} → c ≡ get_or new (get_or places i 0) c → {x : X}
+    → x ≡ get_or xs (get_or places i 0) x → (get_or new (get_or places i 0) c).name ≡ name x
+name_here name xs {f} {p} {old} {new} {places} {i} h below {c} is {x} x_is =
+    let within : get_or places i 0 < length xs = omega (arith, name_within h below, length-map xs name) in
+    ap (λ (z : SeenCell). z.name) (sym is)
+    ∙ name_at name f xs new h.cells (get_or places i 0) c x (at_place h below is) (slice_get_read xs (length xs) (get_or places i 0) x refl within x_is)
 
 -- with all places passed, all near areas were asked for
 pub asked_all :

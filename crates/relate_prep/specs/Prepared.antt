@@ -25,6 +25,11 @@ pub record SeenBasis : Type 0 where
   pub extents : SeenExtents
   pub shells : List Window
 
+-- They, one by one.
+abbrev pub seen_basis : Figure → List Edge → List Seg → SeenEnds → SeenExtents → List Window → SeenBasis
+seen_basis figure rows segs ends extents shells =
+    record { figure = figure; rows = rows; segs = segs; ends = ends; extents = extents; shells = shells }
+
 -- The figure is valid, the edges are its edges in order, each with its hand, the line ends and spots are the figure's, and so are
 -- the envelopes under every rule and the boxes of the shells.
 pub record IsBasis (seen : SeenBasis) : Type 0 where

@@ -25,27 +25,13 @@ pub(crate) struct Basis {
 }
 
 impl Model for Basis {
-    ghost use Rattle.relate_prep.specs.Prepared.{SeenBasis, IsBasis};
+    ghost use Rattle.relate_prep.specs.Prepared.{SeenBasis, IsBasis, seen_basis};
 
     ghost Value = { SeenBasis };
 
-    ghost view = { λ b. record {
-      figure = b.valid;
-      rows = b.rows;
-      segs = b.segs;
-      ends = b.ends;
-      extents = b.extents;
-      shells = b.shells;
-    } };
+    ghost view = { λ b. seen_basis b.valid b.rows b.segs b.ends b.extents b.shells };
 
-    ghost invariant = { λ b. IsBasis (record {
-      figure = b.valid;
-      rows = b.rows;
-      segs = b.segs;
-      ends = b.ends;
-      extents = b.extents;
-      shells = b.shells;
-    }) };
+    ghost invariant = { λ b. IsBasis (seen_basis b.valid b.rows b.segs b.ends b.extents b.shells) };
 }
 
 impl Basis {

@@ -1,17 +1,17 @@
 -- In a valid figure an area is nowhere but near the box of its shell: where the least box round a point has no common point with that
 -- box, the point is on no edge of the shell and not inside it, and it is on no edge of a hole, since what is inside a hole is inside
 -- the shell.
-use Rattle.std.proofs.Common.{◌≡◌, inl, pos, ◌≤ℤ◌, ℕ, suc, false, List, [], ◌∷◌, refl, ◌∙◌, arith}
+use Rattle.std.proofs.Common.{◌≡◌, inl, ℕ, suc, false, List, [], ◌∷◌, refl, ◌∙◌, arith}
 use Rattle.std.specs.List.{list_any}
 use Rattle.std.specs.Prelude.{◌↔◌}
 use Rattle.std.proofs.lemmas.Bool.{false_from_ne_true}
 use Rattle.im_matrix.specs.declared.Loc.TheVariants.{Exterior}
-use Rattle.whole_algebra.proofs.Signs.{<ℤ_weaken, ≤ℤ_trans, scale_≤ℤ_right}
 use Rattle.plane_laws.specs.Plane.{Point, IsSamePoint}
 use Rattle.plane_laws.proofs.Points.Same.{same_refl}
-use Rattle.plane_exact.specs.Windows.{IsInWindow, IsWithin, HasCommonPoint, IsLeastWindow}
+use Rattle.plane_exact.specs.Windows.{IsInWindow, HasCommonPoint, IsLeastWindow}
 use Rattle.plane_exact.specs.declared.point.Pt.{Pt}
 use Rattle.plane_exact.specs.declared.window.Window.{Window}
+use Rattle.edge_index.proofs.LeastBoxes.{within_holds}
 use Rattle.point_set.specs.declared.figure.Area.{Area}
 use Rattle.point_set.specs.declared.figure.Figure.{Figure}
 use Rattle.point_set.specs.Location.{location, location_by, edges_of_rings, rings_of}
@@ -93,17 +93,6 @@ module _ (f : Figure) (shaped : IsWellShaped f) (valid : IsValid f) (place : ℕ
         λ j. location_by (edges j) (not_inside j) (list_any (is_inside p) area.holes)
 
 -- ---- near shells
--- a box that is within another holds no more than it
-pub within_holds : {inner outer : Window} → IsWithin inner outer → (p : Point) → IsInWindow inner p → IsInWindow outer p
-within_holds h p k =
-    let heavy : pos 0 ≤ℤ p.w = <ℤ_weaken p.heavy in
-    record {
-      left = ≤ℤ_trans (scale_≤ℤ_right heavy h.left) k.left;
-      right = ≤ℤ_trans k.right (scale_≤ℤ_right heavy h.right);
-      bottom = ≤ℤ_trans (scale_≤ℤ_right heavy h.bottom) k.bottom;
-      top = ≤ℤ_trans k.top (scale_≤ℤ_right heavy h.top);
-    }
-
 -- a shell is near a point exactly where any least box round the point has a common point with any box of the shell
 pub near_by_boxes :
     (area : Area) (p : Point) (window box : Window) → IsLeastWindow (IsSamePoint p) window → IsShellBox area box
@@ -111,8 +100,8 @@ pub near_by_boxes :
 near_by_boxes area p window box round is = (
   λ near. record {
     point = near.common.point;
-    here = within_holds (one_least_window near.round round) near.common.point near.common.here;
-    there = within_holds (one_least_window near.is.1 is.1) near.common.point near.common.there;
+    here = within_holds _ _ near.common.point (one_least_window near.round round) near.common.here;
+    there = within_holds _ _ near.common.point (one_least_window near.is.1 is.1) near.common.there;
   },
   λ common. record { window = window; round = round; box = box; is = is; common = common },
 )

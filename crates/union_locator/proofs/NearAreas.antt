@@ -25,19 +25,16 @@ pub record ArePassed (areas : List Area) (p : Point) (places : List ℕ) (k : �
 
 module _ (areas : List Area) (p : Point) (places : List ℕ) (near : AreNearAreas areas p places) where
   -- ---- one place more
-  module _ (k : ℕ) (below : k < length places) (here : Loc)
+  module _ (k : ℕ) (below : k < length places) {here : Loc}
       (here_is : (area : Area) → IsAtPlace areas (get_or places k 0) area → here ≡ location area p) where
-    -- there is an area
-    pub place_within : get_or places k 0 < length areas
-    place_within = near.within k 0 below
-
-    -- which is one of those that say so
+    -- there is an area, which is one of those that say so
     pub some_here : (loc : Loc) → here ≡ loc → Any (λ area. location area p ≡ loc) areas
     some_here loc e =
         let place = get_or places k 0 in
-        let x = some_item areas place place_within in
-        let is = slice_get-get_or areas place x.0 place_within in
-        (place, x.0, place_within, x.1, sym (ap (λ (a : Area). location a p) x.1) ∙ sym (here_is (get_or areas place x.0) is) ∙ e)
+        let within = near.within k 0 below in
+        let x = some_item areas place within in
+        let is = slice_get-get_or areas place x.0 within in
+        (place, x.0, within, x.1, sym (ap (λ (a : Area). location a p) x.1) ∙ sym (here_is (get_or areas place x.0) is) ∙ e)
 
     -- those at the places before, and the one here
     each_more :
@@ -53,19 +50,21 @@ module _ (areas : List Area) (p : Point) (places : List ℕ) (near : AreNearArea
             (λ e. not_in (own ∙ e), λ e. sym own ∙ (both e).1)
 
     -- one on whose boundary it is makes it Boundary
-    pub boundary_passed : (old : Loc) → ArePassed areas p places k old → here ≡ Boundary → ArePassed areas p places (k + 1) Boundary
-    boundary_passed old before e = record {
-      outside = λ i. cc;
-      each = each_more old Boundary before (λ i. cc) (λ i. let both = sym e ∙ i in cc);
+    pub boundary_passed : {old : Loc} → ArePassed areas p places k old → here ≡ Boundary → {new : Loc} → new ≡ Boundary
+        → ArePassed areas p places (k + 1) new
+    boundary_passed {old} before e {new} is = record {
+      outside = λ i. let both = sym is ∙ i in cc;
+      each = each_more old new before (λ i. let both = sym is ∙ i in cc) (λ i. let both = sym e ∙ i in cc);
       boundary = λ i. some_here Boundary e;
     }
 
     -- and one outside of which it is changes nothing
-    pub outside_passed : (old : Loc) → ArePassed areas p places k old → here ≡ Exterior → ArePassed areas p places (k + 1) old
-    outside_passed old before e = record {
-      outside = before.outside;
-      each = each_more old old before (λ i. (i, e)) (λ i. let both = sym e ∙ i in cc);
-      boundary = before.boundary;
+    pub outside_passed : {old : Loc} → ArePassed areas p places k old → here ≡ Exterior → {new : Loc} → new ≡ old
+        → ArePassed areas p places (k + 1) new
+    outside_passed {old} before e {new} is = record {
+      outside = λ i. before.outside (sym is ∙ i);
+      each = each_more old new before (λ i. (sym is ∙ i, e)) (λ i. let both = sym e ∙ i in cc);
+      boundary = λ i. before.boundary (sym is ∙ i);
     }
 
   -- ---- past the last place

@@ -68,18 +68,15 @@ module _ (f : Figure) (p : Point) (rows : List Edge) (places : List ℕ) (near :
       let s = source_at owned_edge rows place edge (subst (λ (edges : List OwnedEdge). IsAtPlace edges place edge) (sym near.edges) is) in
       record { row = s.item; is = s.is; same = s.same }
 
-  -- ---- the edge that is read at a place, and any other that is said to be there
-  module _ (place : ℕ) (edge : Edge) (there : Contains places place) (item : edge ≡ get_or rows place edge) where
-    one_edge : (other : Edge) → IsAtPlace rows place other → other ≡ edge
-    one_edge other is = some_same (sym is ∙ edge_read place edge there item)
+-- ---- the edge at a place, and any other that is said to be there
+module _ {rows : List Edge} {place : ℕ} {p : Point} {edge other : Edge} (is : IsAtPlace rows place edge) where
+  -- it is one of a line, or another one isn't either
+  pub line_there : IsLineEdgeAt rows place p other → (area_of edge.owner ≡ None) × IsOnEdge edge.seg p
+  line_there h =
+      let same = some_same (sym h.is ∙ is) in
+      (subst (λ (e : Edge). area_of e.owner ≡ None) same h.of_line, subst (λ (e : Edge). IsOnEdge e.seg p) same h.on)
 
-    -- it is one of a line, or another one isn't either
-    pub line_there : (other : Edge) → IsLineEdgeAt rows place p other → (area_of edge.owner ≡ None) × IsOnEdge edge.seg p
-    line_there other h =
-        let same = one_edge other h.is in
-        (subst (λ (e : Edge). area_of e.owner ≡ None) same h.of_line, subst (λ (e : Edge). IsOnEdge e.seg p) same h.on)
-
-    pub area_there : (other : Edge) → IsAreaEdgeAt rows place p other → (¬ (area_of edge.owner ≡ None)) × IsOnEdge edge.seg p
-    area_there other h =
-        let same = one_edge other h.is in
-        (λ e. h.of_area (subst (λ (z : Edge). area_of z.owner ≡ None) (sym same) e), subst (λ (e : Edge). IsOnEdge e.seg p) same h.on)
+  pub area_there : IsAreaEdgeAt rows place p other → (¬ (area_of edge.owner ≡ None)) × IsOnEdge edge.seg p
+  area_there h =
+      let same = some_same (sym h.is ∙ is) in
+      (λ e. h.of_area (subst (λ (z : Edge). area_of z.owner ≡ None) (sym same) e), subst (λ (e : Edge). IsOnEdge e.seg p) same h.on)

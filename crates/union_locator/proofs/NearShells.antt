@@ -5,7 +5,8 @@ use Rattle.std.specs.Prelude.{Some, map}
 use Rattle.std.proofs.lemmas.Bool.{or_left}
 use Rattle.std.proofs.lemmas.Int.{ints, clamps}
 use Rattle.std.proofs.lemmas.List.Elements.{All-weaker}
-use Rattle.std.proofs.lemmas.Option.{slice_get-get_or, slice_get_within}
+use Rattle.std.proofs.lemmas.Option.{slice_get_read, slice_get_within}
+use Rattle.im_matrix.specs.declared.Loc.TheVariants.{Exterior}
 use Rattle.plane_laws.specs.Plane.{Point, IsSamePoint}
 use Rattle.plane_laws.proofs.Points.Same.{same_refl, Decides-is_same_point}
 use Rattle.plane_exact.specs.Places.{point_of}
@@ -14,6 +15,7 @@ use Rattle.plane_exact.specs.declared.point.Pt.{Pt}
 use Rattle.plane_exact.specs.declared.point.Seg.{Seg}
 use Rattle.plane_exact.specs.declared.window.Window.{Window}
 use Rattle.plane_exact.proofs.Laws.{least_of_ends, low_at_most_high}
+use Rattle.edge_index.proofs.LeastBoxes.{within_holds}
 use Rattle.edge_index.specs.Segments.{ArePlacesIn, IsWindowOf, MeetsAtPlace}
 use Rattle.point_set.specs.declared.figure.Area.{Area}
 use Rattle.point_set.specs.declared.figure.Figure.{Figure}
@@ -22,11 +24,11 @@ use Rattle.point_set.specs.Lines.{is_at, is_at_some}
 use Rattle.point_set.specs.Shape.{IsWellShaped}
 use Rattle.point_set.specs.Validity.{IsAtPlace, IsValid}
 use Rattle.figure_laws.proofs.Edges.Windows.{one_least_window}
-use Rattle.union_locator.specs.Areas.{AreNearAreas}
-use Rattle.union_locator.specs.Shells.{AreBoxesNear, AreShellBoxes, AreShellsNear, IsBoxNearAt, IsShellBox, IsShellNearAt, diagonal_of}
-use Rattle.union_locator.proofs.BeyondShells.{apart_is_out, near_by_boxes, outside_exterior, within_holds}
+use Rattle.union_locator.specs.Areas.{AreNearAreas, IsInAreaAt}
+use Rattle.union_locator.specs.Shells.{AreBoxesNear, AreShellBoxes, AreShellsNear, IsBoxNearAt, IsShellNearAt, diagonal_of}
+use Rattle.union_locator.proofs.BeyondShells.{apart_is_out, near_by_boxes, outside_exterior}
 use Rattle.union_locator.proofs.MeetingPlaces.{image_at, source_at}
-use Rattle.union_locator.proofs.SingleAreas.{some_item}
+use Rattle.union_locator.proofs.SingleAreas.{item_at}
 
 -- ---- a box and its diagonal
 -- a box that has a point is the window of its diagonal
@@ -45,44 +47,19 @@ some_held (q ∷ others) box is =
     record { point = point_of q; here = inside; there = inside }
 
 -- ---- near boxes are those of near shells
+-- where one of two lists that are as long has an item, the other has one
+other_item : {X Y : Type 0} (xs : List X) (ys : List Y) → length xs ≡ length ys → (place : ℕ) (x : X) → IsAtPlace xs place x
+    → (y : Y) × IsAtPlace ys place y
+other_item xs ys count place x is = let within = slice_get_within xs place x is in item_at ys place (omega (arith, count, within))
+
 module _ (areas : List Area) (boxes : List Window) (are : AreShellBoxes areas boxes) (w : Window) where
-  -- the area that a box belongs to
-  record HasShell (place : ℕ) (box : Window) : Type 0 where
-    area : Area
-    area_is : IsAtPlace areas place area
-    is : IsShellBox area box
-
-  has_shell : (place : ℕ) (box : Window) → IsAtPlace boxes place box → HasShell place box
-  has_shell place box box_is =
-      let within = slice_get_within boxes place box box_is in
-      let count = are.count in
-      let below : place < length areas = omega (arith, within, count) in
-      let x = some_item areas place below in
-      let area_is = slice_get-get_or areas place x.0 below in
-      record { area = get_or areas place x.0; area_is = area_is; is = are.each place (get_or areas place x.0) box area_is box_is }
-
-  -- and the box of an area
-  record HasBox (place : ℕ) (area : Area) : Type 0 where
-    box : Window
-    box_is : IsAtPlace boxes place box
-    is : IsShellBox area box
-
-  has_box : (place : ℕ) (area : Area) → IsAtPlace areas place area → HasBox place area
-  has_box place area area_is =
-      let within = slice_get_within areas place area area_is in
-      let count = are.count in
-      let below : place < length boxes = omega (arith, within, count) in
-      let x = some_item boxes place below in
-      let box_is = slice_get-get_or boxes place x.0 below in
-      record { box = get_or boxes place x.0; box_is = box_is; is = are.each place area (get_or boxes place x.0) area_is box_is }
-
   -- ---- by the index
   module _ (segs : List Seg) (same : segs ≡ map diagonal_of boxes) where
     box_of_seg : (place : ℕ) → MeetsAtPlace w segs place → IsBoxNearAt w boxes place
     box_of_seg place m =
         let s = source_at diagonal_of boxes place m.seg (subst (λ (xs : List Seg). IsAtPlace xs place m.seg) same m.seg_is) in
-        let shell = has_shell place s.item s.is in
-        let own = diagonal_window s.item s.item (some_held shell.area.shell s.item shell.is) in
+        let area = other_item boxes areas are.count place s.item s.is in
+        let own = diagonal_window s.item s.item (some_held area.0.shell s.item (are.each place area.0 s.item area.1 s.is)) in
         let found : IsWindowOf (diagonal_of s.item) m.meets.box = subst (λ z. IsWindowOf z m.meets.box) (sym s.same) m.meets.least in
         record {
           box = s.item;
@@ -90,7 +67,7 @@ module _ (areas : List Area) (boxes : List Window) (are : AreShellBoxes areas bo
           common = record {
             point = m.meets.common.point;
             here = m.meets.common.there;
-            there = within_holds (one_least_window found own) m.meets.common.point m.meets.common.here;
+            there = within_holds _ _ m.meets.common.point (one_least_window found own) m.meets.common.here;
           };
         }
 
@@ -125,13 +102,15 @@ module _ (areas : List Area) (boxes : List Window) (are : AreShellBoxes areas bo
     where
       shell_near : (place : ℕ) → IsBoxNearAt w boxes place → IsShellNearAt areas p place
       shell_near place n =
-          let h = has_shell place n.box n.box_is in
-          record { area = h.area; area_is = h.area_is; near = (near_by_boxes h.area p w n.box round h.is).1 n.common }
+          let area = other_item boxes areas are.count place n.box n.box_is in
+          let near = (near_by_boxes area.0 p w n.box round (are.each place area.0 n.box area.1 n.box_is)).1 n.common in
+          record { area = area.0; area_is = area.1; near = near }
 
       box_near : (place : ℕ) → IsShellNearAt areas p place → IsBoxNearAt w boxes place
       box_near place n =
-          let h = has_box place n.area n.area_is in
-          record { box = h.box; box_is = h.box_is; common = (near_by_boxes n.area p w h.box round h.is).0 n.near }
+          let box = other_item areas boxes (sym are.count) place n.area n.area_is in
+          let common = (near_by_boxes n.area p w box.0 round (are.each place n.area box.0 n.area_is box.1)).0 n.near in
+          record { box = box.0; box_is = box.1; common = common }
 
 -- ---- a point is outside of every area whose shell isn't near it
 pub near_areas : (f : Figure) (boxes : List Window) (p : Point) (places : List ℕ) → IsWellShaped f → IsValid f → AreShellBoxes f.areas boxes
@@ -142,10 +121,22 @@ near_areas f boxes p places shaped valid are found = record {
       All-weaker (IsShellNearAt f.areas p) (λ place. place < length f.areas) (λ place n. slice_get_within f.areas place n.area n.area_is) places
       found.near;
   far = λ place area is none.
-      let h = has_box f.areas boxes are found.window place area is in
-      outside_exterior f shaped valid place area is h.box h.is p
-      (apart_is_out p found.window h.box found.round (λ common.
+      let box = other_item f.areas boxes (sym are.count) place area is in
+      let own = are.each place area box.0 is box.1 in
+      outside_exterior f shaped valid place area is box.0 own p
+      (apart_is_out p found.window box.0 found.round (λ common.
       none
       (found.whole place
-      (record { area = area; area_is = is; near = (near_by_boxes area p found.window h.box found.round h.is).1 common }))));
+      (record { area = area; area_is = is; near = (near_by_boxes area p found.window box.0 found.round own).1 common }))));
 }
+
+-- outside of one at a place whose box has no common point with the least box round the point
+pub far_area : {f own : Figure} → f ≡ own → IsWellShaped f → IsValid f → {shells : List Window} → AreShellBoxes f.areas shells
+    → (place : ℕ) {box : Window} → box ≡ get_or shells place box → (p : Point) {window : Window} → IsLeastWindow (IsSamePoint p) window
+    → ¬ HasCommonPoint window box → IsInAreaAt own place p Exterior
+far_area {f} {own} same shaped valid {shells} are place {box} item p {window} round apart area at =
+    let at_f : IsAtPlace f.areas place area = subst (λ (z : Figure). IsAtPlace z.areas place area) (sym same) at in
+    let within = slice_get_within f.areas place area at_f in
+    let count = are.count in
+    let at_box : IsAtPlace shells place box = slice_get_read shells (length shells) place box refl (omega (arith, count, within)) item in
+    sym (outside_exterior f shaped valid place area at_f box (are.each place area box at_f at_box) p (apart_is_out p window box round apart))

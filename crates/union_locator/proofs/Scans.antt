@@ -1,5 +1,6 @@
 -- The places in a list for which something holds, as far as the list was passed: those of rows that meet a window, and of boxes near it.
-use Rattle.std.proofs.Common.{◌≡◌, ◌⊎◌, inl, inr, ℕ, ◌+◌, ◌<◌, ◌≤◌, List, [], ◌∷◌, ◌++◌, length, get_or, sym, ◌∙◌, subst, arith}
+use Rattle.std.proofs.Common.{◌≡◌, ◌⊎◌, inl, inr, Bool, true, false, ℕ, ◌+◌, ◌<◌, ◌≤◌, List, [], ◌∷◌, ◌++◌, length, get_or, ap, refl, sym, ◌∙◌, subst, arith}
+use Rattle.std.specs.Prelude.{IsTrue, ◌↔◌}
 use Rattle.std.specs.List.{All, Contains}
 use Rattle.std.specs.List.Sorted.{IsStrictlyIncreasing}
 use Rattle.std.proofs.lemmas.List.Elements.{All-nil, All-push, All-weaker, Contains-push, Contains-append_left}
@@ -10,7 +11,7 @@ use Rattle.plane_exact.specs.Windows.{HasCommonPoint, IsLeastWindow}
 use Rattle.plane_exact.specs.declared.window.Window.{Window}
 use Rattle.point_set.specs.declared.edge.Edge.{Edge}
 use Rattle.point_set.specs.Edges.{OwnedEdge, MeetsWindow, MeetsAtPlace, ArePlacesIn}
-use Rattle.point_set.specs.Validity.{IsOnEdge}
+use Rattle.point_set.specs.Validity.{IsAtPlace, IsOnEdge}
 use Rattle.figure_laws.proofs.Edges.Windows.{meets_by_least}
 use Rattle.figure_laws.proofs.Lists.Places.{some_same}
 use Rattle.ring_sides.specs.Rows.{owned_edge, owned_edges}
@@ -88,65 +89,73 @@ module _ (P : ℕ → Type 0) (k : ℕ) (out : List ℕ) (h : ArePlacesBelow P k
           let same : place ≡ k = omega (arith, l, below) in
           absurd (apart (subst P same m))
 
+  -- so it is one place more, by a test
+  scanned : (met : Bool) → IsTrue met ↔ P k → {new : List ℕ} → (met ≡ true → new ≡ out ++ k ∷ []) → (met ≡ false → new ≡ out)
+      → ArePlacesBelow P (k + 1) new
+  scanned true decides some none = subst (ArePlacesBelow P (k + 1)) (sym (some refl)) (one_more (decides.0 refl))
+  scanned false decides some none =
+      subst (ArePlacesBelow P (k + 1)) (sym (none refl)) (none_more (λ m. let both = decides.1 m in cc))
+
 -- ---- rows that meet a window
 abbrev pub AreRowsBelow : Window → List Edge → ℕ → List ℕ → Type 0
 AreRowsBelow w rows k out = ArePlacesBelow (MeetsAtPlace w (owned_edges rows)) k out
 
--- A row that meets the window comes to the list.
-pub pushed : (w : Window) (items rows : List Edge) (k : ℕ) (d : Edge) {box : Window} (out new : List ℕ) → items ≡ rows → k < length items
-    → IsLeastWindow (IsOnEdge (get_or items k d).seg) box → HasCommonPoint box w → AreRowsBelow w rows k out → new ≡ out ++ k ∷ []
-    → AreRowsBelow w rows (k + 1) new
-pushed w items rows k d {box} out new same below least common h e =
-    let row = get_or items k d in
-    subst (λ (xs : List ℕ). AreRowsBelow w rows (k + 1) xs) (sym e)
-    (one_more (MeetsAtPlace w (owned_edges rows)) k out h (record {
-      edge = owned_edge row;
-      edge_is = image_at owned_edge rows k row (item_read items rows k d same below);
-      meets = (meets_by_least w row.seg box least).1 common;
-    }))
+-- One row more: it meets the window where its box has a common point with it.
+pub row_scanned : {w : Window} {items rows : List Edge} {k : ℕ} (d : Edge) {box : Window} {met : Bool} {out new : List ℕ} → items ≡ rows
+    → k < length items → IsLeastWindow (IsOnEdge (get_or items k d).seg) box → IsTrue met ↔ HasCommonPoint box w → AreRowsBelow w rows k out
+    → (met ≡ true → new ≡ out ++ k ∷ []) → (met ≡ false → new ≡ out) → AreRowsBelow w rows (k + 1) new
+row_scanned {w} {items} {rows} {k} d {box} {met} {out} same below least decides h some none =
+    scanned (MeetsAtPlace w (owned_edges rows)) k out h met (λ t. meets (decides.0 t), λ m. decides.1 (common m)) some none
+  where
+    row : Edge
+    row = get_or items k d
 
--- One that doesn't leaves the list.
-pub passed : (w : Window) (items rows : List Edge) (k : ℕ) (d : Edge) {box : Window} (out : List ℕ) → items ≡ rows → k < length items
-    → IsLeastWindow (IsOnEdge (get_or items k d).seg) box → ¬ HasCommonPoint box w → AreRowsBelow w rows k out
-    → AreRowsBelow w rows (k + 1) out
-passed w items rows k d {box} out same below least apart h = none_more (MeetsAtPlace w (owned_edges rows)) k out h (λ m.
-    let row = get_or items k d in
-    let at = image_at owned_edge rows k row (item_read items rows k d same below) in
-    let here : owned_edge row ≡ m.edge = some_same (sym at ∙ m.edge_is) in
-    apart ((meets_by_least w row.seg box least).0 (subst (λ (z : OwnedEdge). MeetsWindow w z.seg) (sym here) m.meets)))
+    at : IsAtPlace (owned_edges rows) k (owned_edge row)
+    at = image_at owned_edge rows k row (item_read items rows k d same below)
+
+    meets : HasCommonPoint box w → MeetsAtPlace w (owned_edges rows) k
+    meets c = record { edge = owned_edge row; edge_is = at; meets = (meets_by_least w row.seg box least).1 c }
+
+    common : MeetsAtPlace w (owned_edges rows) k → HasCommonPoint box w
+    common m =
+        let here : owned_edge row ≡ m.edge = some_same (sym at ∙ m.edge_is) in
+        (meets_by_least w row.seg box least).0 (subst (λ (z : OwnedEdge). MeetsWindow w z.seg) (sym here) m.meets)
 
 -- Past the last row these are all.
-pub all_places : (w : Window) (rows : List Edge) (k : ℕ) (out : List ℕ) → length rows ≤ k → AreRowsBelow w rows k out
+pub all_places : {w : Window} {items rows : List Edge} {k : ℕ} {out : List ℕ} → items ≡ rows → length items ≤ k → AreRowsBelow w rows k out
     → ArePlacesIn w (owned_edges rows) out
-all_places w rows k out past h = record {
+all_places {w} {items} {rows} {k} {out} same past h = record {
   ascending = h.ascending;
   meet = h.are;
   whole = λ place m.
       let within = slice_get_within (owned_edges rows) place m.edge m.edge_is in
-      h.whole place (omega (arith, within, length-map rows owned_edge)) m;
+      h.whole place (omega (arith, within, past, ap length same, length-map rows owned_edge)) m;
 }
 
 -- ---- boxes that have a common point with a window
--- A box that has one comes to the list.
-pub box_pushed : (w : Window) (items boxes : List Window) (k : ℕ) (d : Window) (out new : List ℕ) → items ≡ boxes → k < length items
-    → HasCommonPoint w (get_or items k d) → ArePlacesBelow (IsBoxNearAt w boxes) k out → new ≡ out ++ k ∷ []
-    → ArePlacesBelow (IsBoxNearAt w boxes) (k + 1) new
-box_pushed w items boxes k d out new same below common h e =
-    subst (λ (xs : List ℕ). ArePlacesBelow (IsBoxNearAt w boxes) (k + 1) xs) (sym e)
-    (one_more (IsBoxNearAt w boxes) k out h
-    (record { box = get_or items k d; box_is = item_read items boxes k d same below; common = common }))
+-- One box more.
+pub box_scanned : {w : Window} {items boxes : List Window} {k : ℕ} (d : Window) {met : Bool} {out new : List ℕ} → items ≡ boxes
+    → k < length items → IsTrue met ↔ HasCommonPoint w (get_or items k d) → ArePlacesBelow (IsBoxNearAt w boxes) k out
+    → (met ≡ true → new ≡ out ++ k ∷ []) → (met ≡ false → new ≡ out) → ArePlacesBelow (IsBoxNearAt w boxes) (k + 1) new
+box_scanned {w} {items} {boxes} {k} d {met} {out} same below decides h some none =
+    scanned (IsBoxNearAt w boxes) k out h met (λ t. near (decides.0 t), λ m. decides.1 (common m)) some none
+  where
+    at : IsAtPlace boxes k (get_or items k d)
+    at = item_read items boxes k d same below
 
--- One that doesn't leaves the list.
-pub box_passed : (w : Window) (items boxes : List Window) (k : ℕ) (d : Window) (out : List ℕ) → items ≡ boxes → k < length items
-    → ¬ HasCommonPoint w (get_or items k d) → ArePlacesBelow (IsBoxNearAt w boxes) k out → ArePlacesBelow (IsBoxNearAt w boxes) (k + 1) out
-box_passed w items boxes k d out same below apart h = none_more (IsBoxNearAt w boxes) k out h (λ m.
-    apart (subst (HasCommonPoint w) (some_same (sym m.box_is ∙ item_read items boxes k d same below)) m.common))
+    near : HasCommonPoint w (get_or items k d) → IsBoxNearAt w boxes k
+    near c = record { box = get_or items k d; box_is = at; common = c }
+
+    common : IsBoxNearAt w boxes k → HasCommonPoint w (get_or items k d)
+    common m = subst (HasCommonPoint w) (some_same (sym m.box_is ∙ at)) m.common
 
 -- Past the last box these are all.
-pub all_boxes : (w : Window) (boxes : List Window) (k : ℕ) (out : List ℕ) → length boxes ≤ k → ArePlacesBelow (IsBoxNearAt w boxes) k out
-    → AreBoxesNear w boxes out
-all_boxes w boxes k out past h = record {
+pub all_boxes : {w : Window} {items boxes : List Window} {k : ℕ} {out : List ℕ} → items ≡ boxes → length items ≤ k
+    → ArePlacesBelow (IsBoxNearAt w boxes) k out → AreBoxesNear w boxes out
+all_boxes {w} {items} {boxes} same past h = record {
   ascending = h.ascending;
   near = h.are;
-  whole = λ place m. let within = slice_get_within boxes place m.box m.box_is in h.whole place (omega (arith, within)) m;
+  whole = λ place m.
+      let within = slice_get_within boxes place m.box m.box_is in
+      h.whole place (omega (arith, within, past, ap length same)) m;
 }

@@ -34,6 +34,10 @@ some_item [] k below = absurd (omega arith)
 some_item (y ∷ xs) zero below = (y, refl)
 some_item (y ∷ xs) (suc k) below = some_item xs k (omega arith)
 
+-- which it has at this place
+pub item_at : {X : Type 0} (xs : List X) (k : ℕ) → k < length xs → (x : X) × IsAtPlace xs k x
+item_at xs k below = let x = some_item xs k below in (get_or xs k x.0, slice_get-get_or xs k x.0 below)
+
 module _ (areas : List Area) (p : Point) (k : ℕ) (below : k < length areas) (here : Loc)
     (here_is : (area : Area) → IsAtPlace areas k area → here ≡ location area p) where
   -- the area there
@@ -45,19 +49,27 @@ module _ (areas : List Area) (p : Point) (k : ℕ) (below : k < length areas) (h
   inside_here e = let x = some_item areas k below in (k, x.0, below, x.1, sym (ap (λ (a : Area). location a p) x.1) ∙ at_here x.0 ∙ e)
 
   -- one on whose boundary it is makes it Boundary
-  pub boundary_here : (loc : Loc) → ¬ (loc ≡ Interior) → IsInAreas (take k areas) p loc → here ≡ Boundary
-      → IsInAreas (take (k + 1) areas) p Boundary
-  boundary_here loc n h e =
-      let x = some_item areas k below in
-      let not_in : ¬ (location (get_or areas k x.0) p ≡ Interior) = λ i. (let both = sym (at_here x.0 ∙ e) ∙ i in cc) in (
+  pub boundary_here : (loc : Loc) → ¬ (loc ≡ Interior) → IsInAreas (take k areas) p loc → here ≡ Boundary → {new : Loc} → new ≡ Boundary
+      → IsInAreas (take (k + 1) areas) p new
+  boundary_here loc n h e {new} is = subst (IsInAreas (take (k + 1) areas) p) (sym is) both_here
+    where
+      x : (d : Area) × (get_or areas k d ≡ d)
+      x = some_item areas k below
+
+      not_in : ¬ (location (get_or areas k x.0) p ≡ Interior)
+      not_in i = let both = sym (at_here x.0 ∙ e) ∙ i in cc
+
+      both_here : IsInAreas (take (k + 1) areas) p Boundary
+      both_here = (
         All-more (λ area. ¬ (location area p ≡ Interior)) areas k x.0 below (not_inside (take k areas) p loc n h) not_in,
         more (Any (λ area. location area p ≡ Boundary)) areas k x.0 below
             (Any-push (λ area. location area p ≡ Boundary) (take k areas) (get_or areas k x.0) (at_here x.0 ∙ e)),
       )
 
   -- and one outside of which it is changes nothing
-  pub outside_here : (loc : Loc) → IsInAreas (take k areas) p loc → here ≡ Exterior → IsInAreas (take (k + 1) areas) p loc
-  outside_here loc h e = by_loc loc h
+  pub outside_here : (loc : Loc) → IsInAreas (take k areas) p loc → here ≡ Exterior → {new : Loc} → new ≡ loc
+      → IsInAreas (take (k + 1) areas) p new
+  outside_here loc h e {new} is = by_loc new (subst (IsInAreas (take k areas) p) (sym is) h)
     where
       x : (d : Area) × (get_or areas k d ≡ d)
       x = some_item areas k below

@@ -16,7 +16,7 @@ use Rattle.point_set.specs.Cover.{IsAdjacent}
 use Rattle.point_set.specs.Location.{location, is_not_exterior, is_covered, IsAreaInterior}
 use Rattle.point_set.specs.Sectors.{sectors_of}
 use Rattle.point_set.specs.Shape.{IsWellShaped, IsLineShaped}
-use Rattle.point_set.specs.Validity.{IsValid, Clause, too_few_points, ring_cross, rings_share_edge, hole_outside, holes_overlap, disconnected, elements_share_edge, elements_overlap, Fails, SomeEarlier}
+use Rattle.point_set.specs.Validity.{IsAtPlace, IsValid, Clause, too_few_points, ring_cross, rings_share_edge, hole_outside, holes_overlap, disconnected, elements_share_edge, elements_overlap, Fails, SomeEarlier}
 use Rattle.figure_laws.proofs.Lists.Places.{all_at}
 use Rattle.fan_order.specs.declared.section.Section.{Section}
 use Rattle.fan_order.specs.Rays.{AreRaysOf}
@@ -26,31 +26,28 @@ use Rattle.fan_laws.proofs.Labels.Boundary.{boundary_by_fan}
 use Rattle.kind_laws.proofs.Cover.Inside.{IsNoAreaInteriorAt, interior_of_one}
 use Rattle.union_locator.specs.Areas.{IsInAreas, areas_alone}
 
+-- What a walk round a point says: it is interior where the walk is inside all round, and else on the boundary.
+pub record IsWalked (f : Figure) (p : Point) (all : Bool) : Type 0 where
+  pub inside : all ≡ true → IsAdjacent f p Interior
+  pub not_inside : all ≡ false → IsAdjacent f p Boundary
+
 -- ---- the areas alone
 -- their shape
 alone_shaped : (f : Figure) → IsWellShaped f → IsWellShaped (areas_alone f)
-alone_shaped f shaped = record {
-  points = All-nil IsInLimit;
-  lines = All-nil IsLineShaped;
-  areas = shaped.areas;
-  few = let few = shaped.few in omega (arith, few);
-}
+alone_shaped f shaped =
+    record { points = All-nil IsInLimit; lines = All-nil IsLineShaped; areas = shaped.areas; few = omega (arith, shaped.few) }
 
 -- they fail no clause
 alone_valid : (f : Figure) → IsValid f → IsValid (areas_alone f)
 alone_valid f valid place clause fails = valid place clause (go clause fails)
   where
+    some_earlier : {IsSo : Area → Area → Type 0} (a : Area) → IsAtPlace f.areas place a → (k : ℕ) → k < place → (b : Area)
+        → IsAtPlace f.areas k b → a.group ≡ b.group → IsSo a b → SomeEarlier f place IsSo
+    some_earlier a at k before b there group so =
+        record { area = a; area_is = at; before = k; earlier = before; other = b; other_is = there; same_group = group; is_so = so }
+
     earlier : {IsSo : Area → Area → Type 0} → SomeEarlier (areas_alone f) place IsSo → SomeEarlier f place IsSo
-    earlier h = record {
-      area = h.area;
-      area_is = h.area_is;
-      before = h.before;
-      earlier = h.earlier;
-      other = h.other;
-      other_is = h.other_is;
-      same_group = h.same_group;
-      is_so = h.is_so;
-    }
+    earlier h = some_earlier h.area h.area_is h.before h.earlier h.other h.other_is h.same_group h.is_so
 
     go : (clause : Clause) → Fails (areas_alone f) place clause → Fails f place clause
     go too_few_points h = record { area = h.area; area_is = h.area_is; is_so = h.is_so }
@@ -104,11 +101,10 @@ module _ (f : Figure) (p : Point) where
     by_fan : IsAreaInterior (areas_alone f) p ↔ ((i : ℕ) → i < sectors_of rays → IsSectorInside A sections rays i)
     by_fan = boundary_by_fan A (areas_alone f) p sections rays fan (none_inside boundary)
 
-    -- inside all round is interior
-    pub walked_inside : inside ≡ true → IsAdjacent f p Interior
-    walked_inside e = interior_whole f p (by_fan.1 (decides.0 e))
-
-    -- else the point is on the boundary
-    pub walked_boundary : inside ≡ false → IsAdjacent f p Boundary
-    walked_boundary e =
-        (boundary_covers boundary, λ h. (let t = sym (decides.1 (by_fan.0 (interior_alone f p h))) ∙ e in cc))
+    -- inside all round is interior, else the point is on the boundary
+    pub walked : IsWalked f p inside
+    walked = record {
+      inside = λ e. interior_whole f p (by_fan.1 (decides.0 e));
+      not_inside = λ e.
+          (boundary_covers boundary, λ h. (let t = sym (decides.1 (by_fan.0 (interior_alone f p h))) ∙ e in cc));
+    }

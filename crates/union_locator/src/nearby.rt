@@ -2,10 +2,12 @@ ghost use Rattle.std.specs.Prelude.{◌≡◌, ◌<◌, ◌↔◌, ℕ, false, I
 ghost use Rattle.im_matrix.specs.declared.Loc.TheVariants as loc;
 ghost use Rattle.im_matrix.specs.declared.Which.TheVariants as which;
 ghost use Rattle.plane_exact.specs.NodePoints.{point_at};
+ghost use Rattle.plane_exact.specs.Places.{IsInLimit};
 ghost use Rattle.point_set.specs.Cover.{IsAdjacent};
 ghost use Rattle.point_set.specs.Edges.{area_of};
 ghost use Rattle.point_set.specs.Location.{IsKind, is_covered, is_on_line as is_on_line_of};
 ghost use Rattle.point_set.specs.Sectors.{sectors_of};
+ghost use Rattle.point_set.specs.Validity.{IsAtPlace};
 ghost use Rattle.point_set.specs.declared.edge.Edge.{Edge};
 ghost use Rattle.bound_rule.specs.Ends.{AreEndsOf};
 ghost use Rattle.fan_order.specs.Rays.{IsShort};
@@ -87,7 +89,7 @@ impl Nearby<'_> {
         ensures edge { IfSome result (IsAreaEdgeAt self.now.rows.now place (point_at self.now.node.now)) }
         ensures none { IfNone result ((edge : Edge) → ¬ IsAreaEdgeAt self.now.rows.now place (point_at self.now.node.now) edge) }
     {
-        let edge = *self.rows.at(place as usize);
+        let edge = self.edge_at(place);
         if !is_of_line(edge.owner) && on_segment(edge.seg, self.node) {
             Some(edge)
         } else {
@@ -136,8 +138,19 @@ impl Nearby<'_> {
         requires place { Contains self.now.places.now place }
         ensures line { IsTrue result ↔ ((edge : Edge) × IsLineEdgeAt self.now.rows.now place (point_at self.now.node.now) edge) }
     {
-        let edge = self.rows.at(place as usize);
+        let edge = self.edge_at(place);
         is_of_line(edge.owner) && on_segment(edge.seg, self.node)
+    }
+
+    /// The edge at one of the places.
+    fn edge_at(&self, place: u32) -> Edge
+        requires near { IsNearby self.now.figure.now (point_at self.now.node.now) self.now.rows.now self.now.places.now }
+        requires place { Contains self.now.places.now place }
+        ensures is { IsAtPlace self.now.rows.now place result }
+        ensures first { IsInLimit result.seg.a }
+        ensures second { IsInLimit result.seg.b }
+    {
+        *self.rows.at(place as usize)
     }
 }
 

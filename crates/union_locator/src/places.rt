@@ -4,6 +4,7 @@ ghost use Rattle.point_set.specs.Edges.{ArePlacesIn};
 ghost use Rattle.ring_sides.specs.Rows.{owned_edges};
 ghost use Rattle.union_locator.specs.Plains.{segs_of};
 
+use crate::shells::push_met;
 use edge_index::EdgeIndex;
 use plane_exact::{NoMemory, PlaceList, SegList, Window};
 use point_set::EdgeRows;
@@ -74,15 +75,14 @@ impl IndexedRows {
 ///
 /// # Errors
 /// `NoMemory`, and then `out` holds any list.
+#[tactic(auto, using(crate::proofs::Scans::all_places))]
 pub fn scan_rows(rows: &EdgeRows, w: Window, out: &mut PlaceList) -> Result<(), NoMemory>
     requires few { length rows.now ≤ 1048576 }
     ensures places { OnOk result (ArePlacesIn w (owned_edges rows.now) out.new) }
 {
     out.clear();
     for (place, row) in rows.as_slice().iter().enumerate() {
-        if Window::of(row.seg).meets(&w) {
-            out.push(place as u32)?;
-        }
+        push_met(out, place, Window::of(row.seg).meets(&w))?;
     }
     Ok(())
 }

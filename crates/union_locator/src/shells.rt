@@ -1,4 +1,4 @@
-ghost use Rattle.std.specs.Prelude.{◌≡◌, ◌≤◌, length, map, IfOk, OnOk};
+ghost use Rattle.std.specs.Prelude.{◌≡◌, ◌≤◌, ◌++◌, ◌∷◌, [], length, map, true, false, IfOk, OnOk};
 ghost use Rattle.point_set.specs.Shape.{IsAreaShaped, IsWellShaped};
 ghost use Rattle.union_locator.specs.Shells.{AreBoxesNear, AreShellBoxes, IsShellBox, diagonal_of as diagonal};
 
@@ -96,15 +96,29 @@ impl IndexedShells {
 ///
 /// # Errors
 /// `NoMemory`, and then `out` holds any list.
+#[tactic(auto, using(crate::proofs::Scans::all_boxes))]
 fn scan_boxes(boxes: &BoxList, w: Window, out: &mut PlaceList) -> Result<(), NoMemory>
     requires few { length boxes.now ≤ 1048576 }
     ensures places { OnOk result (AreBoxesNear w boxes.now out.new) }
 {
     out.clear();
     for (place, around) in boxes.as_slice().iter().enumerate() {
-        if w.meets(around) {
-            out.push(place as u32)?;
-        }
+        push_met(out, place, w.meets(around))?;
+    }
+    Ok(())
+}
+
+/// Puts a place at the end of a list where it is met.
+///
+/// # Errors
+/// `NoMemory`.
+pub(crate) fn push_met(out: &mut PlaceList, place: usize, met: bool) -> Result<(), NoMemory>
+    requires few { place ≤ 1048576 }
+    ensures met { OnOk result (met ≡ true → out.new ≡ out.old ++ place ∷ []) }
+    ensures passed { OnOk result (met ≡ false → out.new ≡ out.old) }
+{
+    if met {
+        out.push(place as u32)?;
     }
     Ok(())
 }

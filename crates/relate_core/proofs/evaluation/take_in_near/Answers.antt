@@ -14,7 +14,9 @@ use Rattle.relate_core.specs.Tables.{IsListed, IsTableOf}
 use Rattle.relate_core.specs.Taking.{HasTakenIn}
 use Rattle.relate_core.proofs.Answered.{taken_at_nodes}
 use Rattle.relate_core.proofs.Taking.{taken_where_known}
+use Rattle.relate_core.proofs.evaluation.take_in_near.Given.{Over}
 use Rattle.relate_core.proofs.evaluation.take_in_near.Goals as goal
+use Rattle.relate_core.proofs.evaluation.take_in_near.Goals.{After-take_in_all}
 
 module _ (a b : Figure) (valid : AreValid a b) (rule : Rule) (f g : Figure) (same_f : f ≡ a) (same_g : g ≡ b) (w u : Option Window)
     (same : w ≡ u) (entries : List Entry) (table : IsTableOf (IsNearNode u a b) a b entries) (p q : Progress) where
@@ -51,20 +53,21 @@ returns-clause-taken g c =
     c.args.progress.now c.take_in_all.new.progress)
     c.take_in_all.ensures.taken
 
+-- the run of all is one over the near nodes
+run_here : (g : Over) (c : After-take_in_all g) {before first after : ℕ} → first ≡ before
+    → IsRunOf (g.A.Target.figure c.fill_in.new.a) (g.B.Target.figure c.fill_in.new.b) c.args.rule c.in_ok-table.table
+    c.args.progress.now first after
+    → IsNearRun c.args.w (g.A.Target.figure c.args.a.now) (g.B.Target.figure c.args.b.now) c.args.rule c.args.progress.now before after
+run_here g c {before} {first} {after} =
+    near_run (g.A.Target.figure c.args.a.now) (g.B.Target.figure c.args.b.now) c.are_valid.ensures.valid c.args.rule
+    (g.A.Target.figure c.fill_in.new.a) (g.B.Target.figure c.fill_in.new.b) c.fill_in.ensures.figure_a c.fill_in.ensures.figure_b
+    c.args.w _ c.in-Some.is c.in_ok-table.table c.in_ok-table.ensures.table c.args.progress.now c.take_in_all.new.progress
+    before first after
+
 pub returns-clause-looks_a : goal.returns-clause-looks_a
 returns-clause-looks_a g c =
-    let a : Figure = g.A.Target.figure c.args.a.now in
-    let b : Figure = g.B.Target.figure c.args.b.now in
-    near_run a b c.are_valid.ensures.valid c.args.rule (g.A.Target.figure c.fill_in.new.a) (g.B.Target.figure c.fill_in.new.b)
-    c.fill_in.ensures.figure_a c.fill_in.ensures.figure_b c.args.w _ c.in-Some.is c.in_ok-table.table c.in_ok-table.ensures.table
-    c.args.progress.now c.take_in_all.new.progress (g.A.Target.looks c.args.a.now) (g.A.Target.looks c.fill_in.new.a)
-    (g.A.Target.looks c.take_in_all.new.a) c.fill_in.ensures.looks_a c.take_in_all.ensures.run_a
+    run_here g (goal.at.returns-clause-looks_a g c).After-take_in_all c.fill_in.ensures.looks_a c.take_in_all.ensures.run_a
 
 pub returns-clause-looks_b : goal.returns-clause-looks_b
 returns-clause-looks_b g c =
-    let a : Figure = g.A.Target.figure c.args.a.now in
-    let b : Figure = g.B.Target.figure c.args.b.now in
-    near_run a b c.are_valid.ensures.valid c.args.rule (g.A.Target.figure c.fill_in.new.a) (g.B.Target.figure c.fill_in.new.b)
-    c.fill_in.ensures.figure_a c.fill_in.ensures.figure_b c.args.w _ c.in-Some.is c.in_ok-table.table c.in_ok-table.ensures.table
-    c.args.progress.now c.take_in_all.new.progress (g.B.Target.looks c.args.b.now) (g.B.Target.looks c.fill_in.new.b)
-    (g.B.Target.looks c.take_in_all.new.b) c.fill_in.ensures.looks_b c.take_in_all.ensures.run_b
+    run_here g (goal.at.returns-clause-looks_b g c).After-take_in_all c.fill_in.ensures.looks_b c.take_in_all.ensures.run_b

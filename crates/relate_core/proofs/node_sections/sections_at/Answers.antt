@@ -10,10 +10,7 @@ use Rattle.relate_core.proofs.node_sections.sections_at.Goals.{then-on_segment+i
 
 pub edge_at-edge-requires : goal.edge_at-edge-requires
 edge_at-edge-requires g c =
-    let f = g.T.Target.figure c.edges_in.new.self in
-    let places = c.as_slice-place-items.result.now in
-    let near = as_read f c.round-around.result places _ c.as_slice-place-items.ensures.items c.in_ok-edges_in.ensures.places in
-    record { within = place_within f c.round-around.result places near c.loop-place.place-index 0 c.loop-place-test.true }
+    record { within = place_within c.as_slice-place-items.ensures.items c.in_ok-edges_in.ensures.places c.loop-place-test.true }
 
 pub loop-place-preserved : goal.loop-place-preserved
 loop-place-preserved g c =

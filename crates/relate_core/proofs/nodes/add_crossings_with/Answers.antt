@@ -15,10 +15,7 @@ use Rattle.relate_core.proofs.nodes.add_crossings_with.Goals.{in-At+in_ok-add_ne
 
 pub edge_at-requires : goal.edge_at-requires
 edge_at-requires g c =
-    let f = g.T.Target.figure c.edges_in.new.self in
-    let places = c.as_slice-place-items.result.now in
-    let near = as_read f c.shared.result places _ c.as_slice-place-items.ensures.items c.in_ok-edges_in.ensures.places in
-    record { within = place_within f c.shared.result places near c.loop-place.place-index 0 c.loop-place-test.true }
+    record { within = place_within c.as_slice-place-items.ensures.items c.in_ok-edges_in.ensures.places c.loop-place-test.true }
 
 pub loop-place-preserved : goal.loop-place-preserved
 loop-place-preserved g c =

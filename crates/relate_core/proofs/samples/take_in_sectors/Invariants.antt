@@ -1,13 +1,8 @@
 -- The samples in the sectors before have been taken in.
-use Rattle.plane_laws.specs.Plane.{Point}
-use Rattle.point_set.specs.declared.figure.Figure.{Figure}
-use Rattle.point_set.specs.declared.rule.Rule.{Rule}
-use Rattle.fan_label.specs.Seen.{AreSeenAt}
-use Rattle.relate_core.specs.Taking.{HasTakenIn}
-use Rattle.relate_core.proofs.Visits.{IsWithinBefore}
+use Rattle.im_matrix.specs.declared.Dim.TheVariants.{Two}
+use Rattle.relate_core.proofs.Contributions.{IsWithinSector}
+use Rattle.relate_core.proofs.Visits.{AreTaken}
 use Rattle.relate_core.proofs.samples.take_in_sectors.Given as goal
 
 abbrev pub invariant-loop-i : goal.invariant-loop-i
-invariant-loop-i l =
-    (a b : Figure) (rule : Rule) (v : Point) → AreSeenAt a b rule v l.at_a l.at_b l.fan.sections
-    → HasTakenIn (IsWithinBefore a b rule v l.fan.rays l.i) l.fn.progress l.progress
+invariant-loop-i l = AreTaken (IsWithinSector l.fan.rays) Two l.at_a l.at_b l.fan.sections l.i l.fn.progress l.progress

@@ -7,20 +7,12 @@ use Rattle.union_locator.proofs.AreaSections.{AreSectionsBefore, nothing_more, s
 use Rattle.union_locator.proofs.nearby.Nearby.area_sections.Goals as goal
 use Rattle.union_locator.proofs.nearby.Nearby.area_sections.Goals.{in-Some+in_ok-add_sections, in_default}
 
-pub add_sections-requires-clause-a : goal.add_sections-requires-clause-a
-add_sections-requires-clause-a c =
+pub add_sections-requires : goal.add_sections-requires
+add_sections-requires c =
     let s = c.args.self.now in
-    (proper_there s.figure.now (point_at s.node.now) s.rows.now s.places.now c.requires.near _ c.in-Some.edge c.in-Some.ensures.edge.is).first
-
-pub add_sections-requires-clause-b : goal.add_sections-requires-clause-b
-add_sections-requires-clause-b c =
-    let s = c.args.self.now in
-    (proper_there s.figure.now (point_at s.node.now) s.rows.now s.places.now c.requires.near _ c.in-Some.edge c.in-Some.ensures.edge.is).second
-
-pub add_sections-requires-clause-apart : goal.add_sections-requires-clause-apart
-add_sections-requires-clause-apart c =
-    let s = c.args.self.now in
-    (proper_there s.figure.now (point_at s.node.now) s.rows.now s.places.now c.requires.near _ c.in-Some.edge c.in-Some.ensures.edge.is).apart
+    let is = c.in-Some.ensures.edge.is in
+    let proper = proper_there s.figure.now (point_at s.node.now) s.rows.now s.places.now c.requires.near _ c.in-Some.edge is in
+    record { a = proper.first; b = proper.second; apart = proper.apart; on = c.in-Some.ensures.edge.on }
 
 pub loop-place-preserved : goal.loop-place-preserved
 loop-place-preserved c =
