@@ -2,16 +2,16 @@
 use Rattle.std.proofs.Common.{◌≡◌, ◌⊎◌, inl, inr, ℕ, zero, suc, ◌+◌, ◌<◌, ◌≤◌, pos, List, [], ◌∷◌, ◌++◌, length, get_or, map, ap, refl, sym, ◌∙◌, subst, arith}
 use Rattle.std.specs.Prelude.{option_map}
 use Rattle.std.specs.List.{Contains}
-use Rattle.std.proofs.lemmas.Int.{ints, clamps}
 use Rattle.std.proofs.lemmas.Option.{none-some, slice_get-get_or, slice_get-map, slice_get_read, slice_get_within}
 use Rattle.plane_exact.specs.declared.point.Seg.{Seg}
 use Rattle.plane_exact.specs.declared.window.Window.{Window}
-use Rattle.plane_exact.specs.Windows.{HasCommonPoint, low_corner, high_corner}
-use Rattle.plane_exact.proofs.Laws.{least_of_ends, low_at_most_high}
-use Rattle.edge_index.specs.Segments.{ArePlacesIn, IsWindowOf}
+use Rattle.plane_exact.specs.Windows.{HasCommonPoint}
+use Rattle.plane_exact.proofs.Laws.{diagonal_window}
+use Rattle.edge_index.specs.Segments.{ArePlacesIn}
 use Rattle.point_set.specs.Validity.{IsAtPlace}
 use Rattle.figure_laws.proofs.Lists.Places.{some_same}
-use Rattle.geom_valid.specs.Boxes.{AreRound, HoldsNear, diagonal_of}
+use Rattle.plane_exact.specs.Windows.{diagonal_of}
+use Rattle.geom_valid.specs.Boxes.{AreRound, HoldsNear}
 use Rattle.geom_valid.proofs.RingLists.{NoneBefore}
 
 -- ---- one item more at the end of a list
@@ -76,13 +76,6 @@ round_at IsRound figures boxes are place figure is =
     record { box = get_or boxes place nowhere; box_is = there; round = are.round place (get_or boxes place nowhere) figure there is }
 
 -- ---- the places that an index of the diagonals finds
--- a box that has a point is the window of its diagonal
-diagonal_window : (box beside : Window) → HasCommonPoint box beside → IsWindowOf (diagonal_of box) box
-diagonal_window box beside common =
-    let sides = low_at_most_high box beside common in
-    least_of_ends box (low_corner box) (high_corner box) (omega (arith, ints, clamps, sides.0)) (omega (arith, ints, clamps, sides.1))
-    (omega (arith, ints, clamps, sides.0)) (omega (arith, ints, clamps, sides.1))
-
 pub near_found : (boxes : List Window) (segs : List Seg) → segs ≡ map diagonal_of boxes → (place : ℕ) (box : Window) → IsAtPlace boxes place box
     → (found : List ℕ) → ArePlacesIn box segs found → HoldsNear boxes place found
 near_found boxes segs same place box is found places other meet =

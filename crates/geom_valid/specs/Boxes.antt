@@ -2,9 +2,8 @@
 use Rattle.std.specs.Prelude.{◌≡◌, ℕ, ◌≤ℤ◌, List, length}
 use Rattle.std.specs.List.{All, Contains}
 use Rattle.plane_exact.specs.declared.point.Pt.{Pt}
-use Rattle.plane_exact.specs.declared.point.Seg.{Seg}
 use Rattle.plane_exact.specs.declared.window.Window.{Window}
-use Rattle.plane_exact.specs.Windows.{HasCommonPoint, low_corner, high_corner}
+use Rattle.plane_exact.specs.Windows.{HasCommonPoint}
 use Rattle.point_set.specs.declared.figure.Area.{Area}
 use Rattle.point_set.specs.Location.{rings_of}
 use Rattle.point_set.specs.Validity.{IsAtPlace}
@@ -28,10 +27,6 @@ IsRoundArea box area = All (IsRoundRing box) (rings_of area)
 pub record AreRound {X : Type 0} (IsRound : Window → X → Type 0) (figures : List X) (boxes : List Window) : Type 0 where
   pub count : length boxes ≡ length figures
   pub round : (place : ℕ) (box : Window) (figure : X) → IsAtPlace boxes place box → IsAtPlace figures place figure → IsRound box figure
-
--- The segment from the corner of a box's low sides to that of its high sides.
-abbrev pub diagonal_of : Window → Seg
-diagonal_of box = record { a = low_corner box; b = high_corner box }
 
 -- The boxes at two places have a common point.
 pub record MeetAt (boxes : List Window) (one other : ℕ) : Type 0 where

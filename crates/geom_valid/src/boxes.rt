@@ -1,9 +1,8 @@
-ghost use Rattle.std.specs.Prelude.{◌≡◌, All, IfOk};
+ghost use Rattle.std.specs.Prelude.{IfOk};
 ghost use Rattle.geom_valid.specs.Boxes.{AreRound, IsInBox, IsRoundArea, IsRoundRing};
 ghost use Rattle.plane_exact.specs.Windows.{IsWithin};
 
-use crate::near_boxes::BoxList;
-use plane_exact::{NoMemory, Path, Pt, Window};
+use plane_exact::{BoxList, NoMemory, Path, Pt, Window};
 use point_set::Area;
 use std::alloc::Global;
 

@@ -1,13 +1,9 @@
 ghost use Rattle.std.specs.Prelude.{◌≡◌, map, IfOk};
-ghost use Rattle.geom_valid.specs.Boxes.{diagonal_of as diagonal};
 
 use edge_index::EdgeIndex;
-use plane_exact::{ItemList, NoMemory, PlaceList, Pt, Seg, SegList, Window};
+use plane_exact::{BoxList, NoMemory, PlaceList, diagonals_of};
 use std::alloc::Global;
 use std::marker::Model;
-
-/// Boxes in order.
-pub(crate) type BoxList = ItemList<Window>;
 
 /// Boxes in order, with an index that finds those near each other.
 #[derive(Debug, Drop)]
@@ -18,7 +14,7 @@ pub(crate) struct NearBoxes {
 
 impl Model for NearBoxes {
     ghost use Rattle.std.specs.Prelude.{◌≡◌, List, map};
-    ghost use Rattle.geom_valid.specs.Boxes.{diagonal_of};
+    ghost use Rattle.plane_exact.specs.Windows.{diagonal_of};
     ghost use Rattle.plane_exact.specs.declared.window.Window.{Window};
 
     ghost Value = { List Window };
@@ -37,7 +33,7 @@ impl NearBoxes {
         requires few { length boxes ≤ 1048576 }
         ensures boxes { IfOk result (λ near. near ≡ boxes) }
     {
-        let index = EdgeIndex::build(alloc, diagonals_of(alloc, &boxes)?)?;
+        let index = EdgeIndex::build(alloc, diagonals_of(alloc, boxes.as_slice())?)?;
         Ok(NearBoxes { boxes, index })
     }
 
@@ -49,32 +45,5 @@ impl NearBoxes {
         let mut places = PlaceList::new(alloc);
         self.index.query(*self.boxes.at(place), &mut places)?;
         Ok(places)
-    }
-}
-
-/// The segments from corner to corner, each of which has its box as window.
-fn diagonals_of(alloc: Global, boxes: &BoxList) -> Result<SegList, NoMemory>
-    ensures diagonals { IfOk result (λ segs. segs ≡ map diagonal boxes.now) }
-{
-    let mut segs = SegList::new(alloc);
-    for around in boxes.as_slice() {
-        segs.push(diagonal_of(around))?;
-    }
-    Ok(segs)
-}
-
-/// The segment from the corner of a box's low sides to that of its high sides.
-fn diagonal_of(around: &Window) -> Seg
-    ensures diagonal { result ≡ diagonal around.now }
-{
-    Seg {
-        a: Pt {
-            x: around.low_x,
-            y: around.low_y,
-        },
-        b: Pt {
-            x: around.high_x,
-            y: around.high_y,
-        },
     }
 }

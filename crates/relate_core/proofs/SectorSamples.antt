@@ -15,15 +15,14 @@ use Rattle.point_set.specs.declared.figure.Figure.{Figure}
 use Rattle.point_set.specs.declared.rule.Rule.{Rule}
 use Rattle.point_set.specs.Lines.{is_on_lines}
 use Rattle.point_set.specs.Location.{edges_of_rings, IsKind, IsLocation, part_of}
-use Rattle.point_set.specs.Nodes.{rings_of_areas, segs_of, segs_of_both}
+use Rattle.point_set.specs.Nodes.{rings_of_areas, segs_of}
 use Rattle.point_set.specs.Rings.{edges_of, is_on_edge, is_on_edges}
 use Rattle.point_set.specs.Samples.{IsSample, IsSeenInSector, IsMatrixOfSamples}
 use Rattle.point_set.specs.Shape.{IsWellShaped}
 use Rattle.figure_laws.proofs.Edges.Lists.{segs_are, none_append}
 use Rattle.stay_laws.proofs.Stays.OffEdges.{interior_off_edges}
-use Rattle.cell_laws.proofs.Directions.Middles.{middle_in_sector, sector_free}
 use Rattle.cell_laws.proofs.Free.Nodes.{IsFree}
-use Rattle.cell_laws.proofs.Free.Ways.{HasFreeWay, free_along}
+use Rattle.cell_laws.proofs.Free.Ways.{HasFreeWay, free_in_sector}
 use Rattle.topo_pred.proofs.Laws.{everywhere}
 
 -- ---- off the edges
@@ -54,12 +53,6 @@ off_boundary f shaped rule p off at = by_kind at.decided_by at.decides at.gives
     by_kind kind.Exterior is e = cc
 
 -- ---- in a sector
--- the way along its middle is free
-free_middle : (a b : Figure) (rule : Rule) (v : Point) (c : Cell) → (s : IsSeenInSector a b rule v c) → HasFreeWay a b v s.middle s.middle
-free_middle a b rule v c s =
-    let within = middle_in_sector s.rays s.i s.middle s.middle_is in
-    free_along a b v s.middle (sector_free v (segs_of_both a b) s.rays s.rays_are.rays_at s.i s.middle within)
-
 module _ (a b : Figure) (shaped : IsWellShaped a) (rule : Rule) where
   -- a near point along its middle is off all edges
   no_boundary : (v : Point) (c : Cell) → IsSeenInSector a b rule v c → ¬ (c.a ≡ Boundary)
@@ -68,7 +61,7 @@ module _ (a b : Figure) (shaped : IsWellShaped a) (rule : Rule) where
       (subst (IsLocation a rule p) e (s.germ.holds (suc n) (omega arith) p (away_point_is v s.middle n)).in_a)
     where
       way : HasFreeWay a b v s.middle s.middle
-      way = free_middle a b rule v c s
+      way = free_in_sector s
 
       n : ℕ
       n = s.germ.from + way.from

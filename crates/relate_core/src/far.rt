@@ -2,6 +2,7 @@ ghost use Rattle.std.specs.Prelude.{◌≡◌, ◌&&◌, int_le};
 ghost use Rattle.im_matrix.specs.Cells.{cell, dimension_at};
 ghost use Rattle.im_matrix.specs.declared.Dim.TheVariants as dim;
 ghost use Rattle.im_matrix.specs.declared.Loc.TheVariants as loc;
+ghost use Rattle.box_laws.specs.Boxes as boxes;
 ghost use Rattle.near_laws.specs.Near as near;
 ghost use Rattle.topo_pred.specs.Values.{matrix_of};
 ghost use Rattle.relate_core.specs.Taking.{HasTakenIn, IsOne};
@@ -15,14 +16,14 @@ use topo_pred::Progress;
 
 /// The envelope of a whole figure.
 pub(crate) fn frame(x: &Extent) -> Option<Window>
-    ensures frame { result ≡ near.frame x.now }
+    ensures frame { result ≡ boxes.frame x.now }
 {
     join(x.areas, join(x.lines, x.points))
 }
 
 /// The least box that holds two boxes, where there are some.
 fn join(u: Option<Window>, v: Option<Window>) -> Option<Window>
-    ensures join { result ≡ near.join u v }
+    ensures join { result ≡ boxes.join u v }
 {
     match (u, v) {
         (Some(u), Some(v)) => Some(u.join(&v)),
@@ -33,7 +34,7 @@ fn join(u: Option<Window>, v: Option<Window>) -> Option<Window>
 
 /// The box of all points that two boxes hold, or none where they hold none.
 pub(crate) fn common_part(u: Option<Window>, v: Option<Window>) -> Option<Window>
-    ensures common { near.IsCommonPart u v result }
+    ensures common { boxes.IsCommonPart u v result }
 {
     let u = u?;
     let v = v?;
@@ -124,7 +125,7 @@ fn boundary_by(areas: bool, ends: bool) -> Dim
 
 /// Whether an envelope has a part outside of a box.
 fn sticks_out(envelope: Option<Window>, w: Option<Window>) -> bool
-    ensures sticks_out { result ≡ near.sticks_out envelope w }
+    ensures sticks_out { result ≡ boxes.sticks_out envelope w }
 {
     match (envelope, w) {
         (None, _) => false,
@@ -135,7 +136,7 @@ fn sticks_out(envelope: Option<Window>, w: Option<Window>) -> bool
 
 /// Whether no side of the inner box is outside of the outer one.
 fn is_within(inner: &Window, outer: &Window) -> bool
-    ensures within { result ≡ near.is_within inner.now outer.now }
+    ensures within { result ≡ boxes.is_within inner.now outer.now }
 {
     is_range_within(inner.low_x, inner.high_x, outer.low_x, outer.high_x)
         && is_range_within(inner.low_y, inner.high_y, outer.low_y, outer.high_y)

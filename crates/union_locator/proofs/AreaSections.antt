@@ -22,7 +22,7 @@ use Rattle.fan_order.specs.Sections.{IsSectionAt, IsSectionToward, AreSectionsAt
 use Rattle.fan_laws.proofs.Fans.Added.{added_only, added_whole}
 use Rattle.ring_sides.specs.Rows.{owned_edge, HasItsHand}
 use Rattle.union_locator.proofs.NearEdges.{edge_there, near_edge, near_row}
-use Rattle.union_locator.specs.Areas.{areas_alone}
+use Rattle.point_set.specs.Location.{areas_alone}
 use Rattle.union_locator.specs.Nearby.{IsNearby, IsAreaEdgeAt}
 
 -- ---- edges of areas, in the figure and in its areas alone

@@ -3,18 +3,17 @@
 use Rattle.std.proofs.Common.{◌≡◌, ℕ, ◌<◌, List, [], ◌∷◌, length, get_or, refl, sym, subst, arith}
 use Rattle.std.specs.Prelude.{Some, map}
 use Rattle.std.proofs.lemmas.Bool.{or_left}
-use Rattle.std.proofs.lemmas.Int.{ints, clamps}
 use Rattle.std.proofs.lemmas.List.Elements.{All-weaker}
 use Rattle.std.proofs.lemmas.Option.{slice_get_read, slice_get_within}
 use Rattle.im_matrix.specs.declared.Loc.TheVariants.{Exterior}
 use Rattle.plane_laws.specs.Plane.{Point, IsSamePoint}
 use Rattle.plane_laws.proofs.Points.Same.{same_refl, Decides-is_same_point}
 use Rattle.plane_exact.specs.Places.{point_of}
-use Rattle.plane_exact.specs.Windows.{HasCommonPoint, IsLeastWindow, low_corner, high_corner}
+use Rattle.plane_exact.specs.Windows.{HasCommonPoint, IsLeastWindow}
 use Rattle.plane_exact.specs.declared.point.Pt.{Pt}
 use Rattle.plane_exact.specs.declared.point.Seg.{Seg}
 use Rattle.plane_exact.specs.declared.window.Window.{Window}
-use Rattle.plane_exact.proofs.Laws.{least_of_ends, low_at_most_high}
+use Rattle.plane_exact.proofs.Laws.{diagonal_window}
 use Rattle.edge_index.proofs.LeastBoxes.{within_holds}
 use Rattle.edge_index.specs.Segments.{ArePlacesIn, IsWindowOf, MeetsAtPlace}
 use Rattle.point_set.specs.declared.figure.Area.{Area}
@@ -25,20 +24,14 @@ use Rattle.point_set.specs.Shape.{IsWellShaped}
 use Rattle.point_set.specs.Validity.{IsAtPlace, IsValid}
 use Rattle.figure_laws.proofs.Edges.Windows.{one_least_window}
 use Rattle.union_locator.specs.Areas.{AreNearAreas, IsInAreaAt}
-use Rattle.union_locator.specs.Shells.{AreBoxesNear, AreShellBoxes, AreShellsNear, IsBoxNearAt, IsShellNearAt, diagonal_of}
+use Rattle.plane_exact.specs.Windows.{diagonal_of}
+use Rattle.union_locator.specs.Shells.{AreBoxesNear, AreShellBoxes, AreShellsNear, IsBoxNearAt, IsShellNearAt}
 use Rattle.union_locator.proofs.BeyondShells.{apart_is_out, near_by_boxes, outside_exterior}
 use Rattle.union_locator.proofs.MeetingPlaces.{image_at, source_at}
 use Rattle.union_locator.proofs.SingleAreas.{item_at}
 
--- ---- a box and its diagonal
--- a box that has a point is the window of its diagonal
-diagonal_window : (box other : Window) → HasCommonPoint box other → IsWindowOf (diagonal_of box) box
-diagonal_window box other common =
-    let sides = low_at_most_high box other common in
-    least_of_ends box (low_corner box) (high_corner box) (omega (arith, ints, clamps, sides.0)) (omega (arith, ints, clamps, sides.1))
-    (omega (arith, ints, clamps, sides.0)) (omega (arith, ints, clamps, sides.1))
-
--- the box of a shell has one
+-- ---- the box of a shell
+-- it has a point
 some_held : (positions : List Pt) (box : Window) → IsEnvelope positions (Some box) → HasCommonPoint box box
 some_held [] box is = absurd (is.0 refl)
 some_held (q ∷ others) box is =

@@ -1,30 +1,30 @@
 -- Round a point that is on the boundary of areas and inside none: it is interior to their union exactly where every sector is inside one.
-use Rattle.std.proofs.Common.{◌≡◌, ℕ, ◌<◌, Bool, true, false, List, length, ap, refl, sym, ◌∙◌, arith}
+use Rattle.std.proofs.Common.{◌≡◌, ℕ, ◌<◌, Bool, true, false, List, length, ap, refl, sym, ◌∙◌}
 use Rattle.std.specs.Prelude.{IsTrue, ◌↔◌}
-use Rattle.std.proofs.lemmas.List.Elements.{All-nil, All-weaker}
+use Rattle.std.proofs.lemmas.List.Elements.{All-weaker}
 use Rattle.std.proofs.lemmas.List.Folds.{list_any_none, list_any-from_Any}
 use Rattle.std.proofs.lemmas.Option.{slice_get_read}
 use Rattle.im_matrix.specs.declared.Loc.{Loc}
 use Rattle.im_matrix.specs.declared.Loc.TheVariants.{Interior, Boundary, Exterior}
 use Rattle.im_matrix.specs.declared.Which.TheVariants.{A}
 use Rattle.plane_laws.specs.Plane.{Point}
-use Rattle.plane_exact.specs.Places.{IsInLimit}
 use Rattle.plane_exact.specs.declared.dir.Dir.{Dir}
-use Rattle.point_set.specs.declared.figure.Area.{Area}
 use Rattle.point_set.specs.declared.figure.Figure.{Figure}
 use Rattle.point_set.specs.Cover.{IsAdjacent}
 use Rattle.point_set.specs.Location.{location, is_not_exterior, is_covered, IsAreaInterior}
 use Rattle.point_set.specs.Sectors.{sectors_of}
-use Rattle.point_set.specs.Shape.{IsWellShaped, IsLineShaped}
-use Rattle.point_set.specs.Validity.{IsAtPlace, IsValid, Clause, too_few_points, ring_cross, rings_share_edge, hole_outside, holes_overlap, disconnected, elements_share_edge, elements_overlap, Fails, SomeEarlier}
+use Rattle.point_set.specs.Shape.{IsWellShaped}
+use Rattle.point_set.specs.Validity.{IsValid}
 use Rattle.figure_laws.proofs.Lists.Places.{all_at}
+use Rattle.figure_laws.proofs.Valid.Alone.{alone_shaped, alone_valid}
 use Rattle.fan_order.specs.declared.section.Section.{Section}
 use Rattle.fan_order.specs.Rays.{AreRaysOf}
 use Rattle.fan_order.specs.Sections.{IsSectorInside, AreSectionsAt, AreHandsAlike, AreSided, IsFanOf}
 use Rattle.fan_laws.proofs.Fans.Hands.{hands_alike, sided}
 use Rattle.fan_laws.proofs.Labels.Boundary.{boundary_by_fan}
 use Rattle.kind_laws.proofs.Cover.Inside.{IsNoAreaInteriorAt, interior_of_one}
-use Rattle.union_locator.specs.Areas.{IsInAreas, areas_alone}
+use Rattle.point_set.specs.Location.{areas_alone}
+use Rattle.union_locator.specs.Areas.{IsInAreas}
 
 -- What a walk round a point says: it is interior where the walk is inside all round, and else on the boundary.
 pub record IsWalked (f : Figure) (p : Point) (all : Bool) : Type 0 where
@@ -32,34 +32,7 @@ pub record IsWalked (f : Figure) (p : Point) (all : Bool) : Type 0 where
   pub not_inside : all ≡ false → IsAdjacent f p Boundary
 
 -- ---- the areas alone
--- their shape
-alone_shaped : (f : Figure) → IsWellShaped f → IsWellShaped (areas_alone f)
-alone_shaped f shaped =
-    record { points = All-nil IsInLimit; lines = All-nil IsLineShaped; areas = shaped.areas; few = omega (arith, shaped.few) }
-
--- they fail no clause
-alone_valid : (f : Figure) → IsValid f → IsValid (areas_alone f)
-alone_valid f valid place clause fails = valid place clause (go clause fails)
-  where
-    some_earlier : {IsSo : Area → Area → Type 0} (a : Area) → IsAtPlace f.areas place a → (k : ℕ) → k < place → (b : Area)
-        → IsAtPlace f.areas k b → a.group ≡ b.group → IsSo a b → SomeEarlier f place IsSo
-    some_earlier a at k before b there group so =
-        record { area = a; area_is = at; before = k; earlier = before; other = b; other_is = there; same_group = group; is_so = so }
-
-    earlier : {IsSo : Area → Area → Type 0} → SomeEarlier (areas_alone f) place IsSo → SomeEarlier f place IsSo
-    earlier h = some_earlier h.area h.area_is h.before h.earlier h.other h.other_is h.same_group h.is_so
-
-    go : (clause : Clause) → Fails (areas_alone f) place clause → Fails f place clause
-    go too_few_points h = record { area = h.area; area_is = h.area_is; is_so = h.is_so }
-    go ring_cross h = record { area = h.area; area_is = h.area_is; is_so = h.is_so }
-    go rings_share_edge h = record { area = h.area; area_is = h.area_is; is_so = h.is_so }
-    go hole_outside h = record { area = h.area; area_is = h.area_is; is_so = h.is_so }
-    go holes_overlap h = record { area = h.area; area_is = h.area_is; is_so = h.is_so }
-    go disconnected h = record { area = h.area; area_is = h.area_is; is_so = h.is_so }
-    go elements_share_edge h = earlier h
-    go elements_overlap h = earlier h
-
--- what is interior to them is interior to the figure's areas, and back
+-- what is interior to the areas alone is interior to the figure's areas, and back
 interior_alone : (f : Figure) (p : Point) → IsAreaInterior f p → IsAreaInterior (areas_alone f) p
 interior_alone f p h = record { a = h.a; b = h.b; c = h.c; strictly = h.strictly; covered = h.covered }
 

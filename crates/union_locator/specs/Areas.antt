@@ -1,5 +1,5 @@
 -- What the single areas of a figure say of a point.
-use Rattle.std.specs.Prelude.{◌≡◌, ℕ, ◌<◌, [], List, Option, IfSome, length, map, Contains}
+use Rattle.std.specs.Prelude.{◌≡◌, ℕ, ◌<◌, List, Option, IfSome, length, map, Contains}
 use Rattle.std.specs.List.{All, Any}
 use Rattle.std.specs.List.Sorted.{IsStrictlyIncreasing}
 use Rattle.im_matrix.specs.declared.Loc.{Loc}

@@ -3,8 +3,7 @@ use Rattle.std.specs.Prelude.{◌≡◌, ℕ, ◌≤◌, List, Option, Some, IfS
 use Rattle.std.specs.List.{All}
 use Rattle.std.specs.List.Sorted.{IsStrictlyIncreasing}
 use Rattle.plane_laws.specs.Plane.{Point, IsSamePoint}
-use Rattle.plane_exact.specs.Windows.{IsLeastWindow, HasCommonPoint, low_corner, high_corner}
-use Rattle.plane_exact.specs.declared.point.Seg.{Seg}
+use Rattle.plane_exact.specs.Windows.{IsLeastWindow, HasCommonPoint, diagonal_of}
 use Rattle.plane_exact.specs.declared.window.Window.{Window}
 use Rattle.edge_index.specs.Index.{SeenIndex}
 use Rattle.point_set.specs.declared.figure.Area.{Area}
@@ -53,10 +52,6 @@ pub record AreBoxesNear (w : Window) (boxes : List Window) (places : List ℕ) :
   pub ascending : IsStrictlyIncreasing places
   pub near : All (IsBoxNearAt w boxes) places
   pub whole : (place : ℕ) → IsBoxNearAt w boxes place → Contains places place
-
--- The segment from the corner of a box's low sides to that of its high sides.
-abbrev pub diagonal_of : Window → Seg
-diagonal_of box = record { a = low_corner box; b = high_corner box }
 
 -- At most 1,048,576 boxes, and once it is made an index of their diagonals.
 pub record AreIndexedShells (boxes : List Window) (index : Option SeenIndex) : Type 0 where

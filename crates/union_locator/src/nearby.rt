@@ -12,7 +12,8 @@ ghost use Rattle.point_set.specs.declared.edge.Edge.{Edge};
 ghost use Rattle.bound_rule.specs.Ends.{AreEndsOf};
 ghost use Rattle.fan_order.specs.Rays.{IsShort};
 ghost use Rattle.fan_order.specs.Sections.{AreHandsAlike, AreSectionsAt, AreSided, IsSectorInside};
-ghost use Rattle.union_locator.specs.Areas.{IsInAreas, areas_alone};
+ghost use Rattle.point_set.specs.Location.{areas_alone};
+ghost use Rattle.union_locator.specs.Areas.{IsInAreas};
 ghost use Rattle.union_locator.specs.Nearby.{IsNearby, IsAreaEdgeAt, IsLineEdgeAt};
 
 use crate::areas::{AreaLocs, locate_in_areas};

@@ -1,16 +1,15 @@
-ghost use Rattle.std.specs.Prelude.{◌≡◌, ◌≤◌, ◌++◌, ◌∷◌, [], length, map, true, false, IfOk, OnOk};
+ghost use Rattle.std.specs.Prelude.{◌≡◌, ◌≤◌, ◌++◌, ◌∷◌, [], length, true, false, IfOk, OnOk};
 ghost use Rattle.point_set.specs.Shape.{IsAreaShaped, IsWellShaped};
-ghost use Rattle.union_locator.specs.Shells.{AreBoxesNear, AreShellBoxes, IsShellBox, diagonal_of as diagonal};
+ghost use Rattle.union_locator.specs.Shells.{AreBoxesNear, AreShellBoxes, IsShellBox};
 
 use edge_index::EdgeIndex;
 use figure_extent::of_way;
-use plane_exact::{ItemList, NoMemory, Node, PlaceList, Pt, Seg, SegList, Window};
+use plane_exact::{
+    BoxList, ItemList, NoMemory, Node, PlaceList, Pt, Seg, SegList, Window, diagonals_of,
+};
 use point_set::{Area, Figure};
 use std::alloc::Global;
 use std::marker::Model;
-
-/// Boxes in order.
-type BoxList = ItemList<Window>;
 
 /// The greatest number of areas that are looked at one by one, since making an index of their boxes would take longer.
 pub(crate) const FEW_AREAS: usize = 32;
@@ -71,7 +70,7 @@ impl IndexedShells {
         ensures same { self.new ≡ self.old }
     {
         if self.index.is_none() && self.boxes.len() > FEW_AREAS {
-            let diagonals = diagonals_of(alloc, &self.boxes)?;
+            let diagonals = diagonals_of(alloc, self.boxes.as_slice())?;
             self.index = Some(EdgeIndex::build(alloc, diagonals)?);
         }
         Ok(())
@@ -121,36 +120,6 @@ pub(crate) fn push_met(out: &mut PlaceList, place: usize, met: bool) -> Result<(
         out.push(place as u32)?;
     }
     Ok(())
-}
-
-/// The segments from corner to corner of boxes, each of which has its box as window.
-///
-/// # Errors
-/// `NoMemory`.
-fn diagonals_of(alloc: Global, boxes: &BoxList) -> Result<SegList, NoMemory>
-    ensures diagonals { IfOk result (λ segs. segs ≡ map diagonal boxes.now) }
-{
-    let mut segs = SegList::new(alloc);
-    for around in boxes.as_slice() {
-        segs.push(diagonal_of(around))?;
-    }
-    Ok(segs)
-}
-
-/// The segment from the corner of a box's low sides to that of its high sides.
-fn diagonal_of(around: &Window) -> Seg
-    ensures diagonal { result ≡ diagonal around.now }
-{
-    Seg {
-        a: Pt {
-            x: around.low_x,
-            y: around.low_y,
-        },
-        b: Pt {
-            x: around.high_x,
-            y: around.high_y,
-        },
-    }
 }
 
 /// The box of the shell of each area of a figure.

@@ -4,7 +4,7 @@ use Rattle.plane_exact.specs.NodePoints.{point_at}
 use Rattle.fan_order.specs.declared.section.Section.{Section}
 use Rattle.fan_order.specs.Rays.{AreRaysOf}
 use Rattle.fan_order.specs.Sections.{AreSectionsAt}
-use Rattle.union_locator.specs.Areas.{areas_alone}
+use Rattle.point_set.specs.Location.{areas_alone}
 use Rattle.union_locator.proofs.WalkRound.{IsWalked, walked}
 use Rattle.union_locator.proofs.nearby.Nearby.walk_round.Goals as goal
 use Rattle.union_locator.proofs.nearby.Nearby.walk_round.Goals.{After-are_all_inside}

@@ -2,7 +2,8 @@ use Rattle.std.proofs.Common.{◌≡◌, map, subst, sym}
 use Rattle.std.specs.Prelude.{IfSome}
 use Rattle.std.proofs.lemmas.Result.{IfOk-weaker}
 use Rattle.plane_exact.specs.NodePoints.{point_at}
-use Rattle.union_locator.specs.Shells.{AreShellBoxes, diagonal_of}
+use Rattle.plane_exact.specs.Windows.{diagonal_of}
+use Rattle.union_locator.specs.Shells.{AreShellBoxes}
 use Rattle.union_locator.proofs.NearShells.{boxes_by_index, shells_by_boxes}
 use Rattle.union_locator.proofs.shells.IndexedShells.near.Goals as goal
 
