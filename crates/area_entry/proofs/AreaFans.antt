@@ -1,6 +1,7 @@
 -- The fan of the rows of a clean area at one of its points: a sector that its hands say to be inside is inside, and any other one is
 -- outside.
-use Rattle.std.proofs.Common.{◌≡◌, ◌⊎◌, inl, inr, ℕ, ◌+◌, ◌%◌, ◌<◌, ◌-ℤ◌, Bool, true, false, IsTrue, ◌↔◌, Some, List, [], ◌∷◌, ◌++◌, length, take, ap, refl, sym, ◌∙◌, subst, arith}
+use Rattle.std.proofs.Common.{◌≡◌, ◌⊎◌, inl, inr, ℕ, ◌+◌, ◌%◌, ◌<◌, ◌-ℤ◌, Bool, true, false, IsTrue, ◌↔◌, Some, List, [], ◌∷◌, ◌++◌, length}
+use Rattle.std.proofs.Common.{take, ap, refl, sym, ◌∙◌, subst, arith}
 use Rattle.std.specs.List.{Any, Contains}
 use Rattle.std.proofs.Math.Nat.{mod-lt}
 use Rattle.std.proofs.lemmas.Bool.{true≢false}

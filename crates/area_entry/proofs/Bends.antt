@@ -1,5 +1,6 @@
 -- The sign of the bend of two directions as the code computes it, and what lies strictly between two directions by such signs.
-use Rattle.std.proofs.Common.{◌≡◌, ◌⊎◌, pos, ◌-ℤ◌, ◌*ℤ◌, ◌<ℤ◌, ◌≤◌, Bool, true, false, IsTrue, ◌↔◌, not, [], ◌∷◌, unsigned_abs, w64, refl, sym, ◌∙◌, arith}
+use Rattle.std.proofs.Common.{◌≡◌, ◌⊎◌, pos, ◌-ℤ◌, ◌*ℤ◌, ◌<ℤ◌, ◌≤◌, Bool, true, false, IsTrue, ◌↔◌, not, [], ◌∷◌, unsigned_abs, w64, refl}
+use Rattle.std.proofs.Common.{sym, ◌∙◌, arith}
 use Rattle.std.proofs.lemmas.Bool.{true≢false}
 use Rattle.std.proofs.lemmas.Int.{ints}
 use Rattle.whole_algebra.proofs.Computed.{Computes, read, product, difference, stored, narrow}

@@ -1,5 +1,6 @@
 -- Where edges run on into a part of an area: at a node, from one edge of the area, from any, and what it says of entering the part.
-use Rattle.std.proofs.Common.{◌≡◌, ◌≢◌, ◌↔◌, ℕ, suc, ◌+◌, ◌<◌, ◌*ℤ◌, Bool, true, false, IsTrue, List, [], ◌∷◌, length, get_or, refl, sym, ◌∙◌, subst, arith}
+use Rattle.std.proofs.Common.{◌≡◌, ◌≢◌, ◌↔◌, ℕ, suc, ◌+◌, ◌<◌, ◌*ℤ◌, Bool, true, false, IsTrue, List, [], ◌∷◌, length, get_or, refl, sym}
+use Rattle.std.proofs.Common.{◌∙◌, subst, arith}
 use Rattle.std.specs.List.{All, Any}
 use Rattle.std.proofs.lemmas.Option.{slice_get_within, get_or_from_slice_get, slice_get_read, slice_get-get_or}
 use Rattle.im_matrix.specs.declared.Loc.{Loc}
@@ -121,7 +122,8 @@ module _ (area : Area) (rows : List Edge) (are_rows : AreRowsOf area rows) (part
 
 -- ---- from an edge of the area, over the edges of a ring
 -- it is enough to look at the ring's edges near that edge
-pub by_ring_places : (ring : List Edge) (area : Area) (part : Loc) (other : Edge) (places : List ℕ) → AreNear (IsOnEdge other.seg) ring places
+pub by_ring_places :
+    (ring : List Edge) (area : Area) (part : Loc) (other : Edge) (places : List ℕ) → AreNear (IsOnEdge other.seg) ring places
     → (b : Bool) → (IsTrue b ↔ Any (RunsOnAtPlace ring other.seg area part) places) → (IsTrue b ↔ SomeRunsOnFrom ring area part other)
 by_ring_places ring area part other places near b decides = (λ t. onto (decides.0 t), λ r. decides.1 (back r))
   where

@@ -1,6 +1,7 @@
 ghost use Rattle.std.specs.Prelude.{◌≡◌, ◌≢◌, ◌↔◌, ◌-ℤ◌, ◌<◌, ℕ, true, IsTrue, IfOk, All, length, map, List};
 ghost use Rattle.std.specs.List.{Any};
-ghost use Rattle.area_entry.specs.Entries.{BeginsIn, IsUnshared, RunsInto, RunsOn, RunsOnAtPlace, RunsOnFrom, RunsOnFromRow, SomeRunsOnFrom};
+ghost use Rattle.area_entry.specs.Entries.{BeginsIn, IsUnshared, RunsInto, RunsOn, RunsOnAtPlace, RunsOnFrom, RunsOnFromRow};
+ghost use Rattle.area_entry.specs.Entries.{SomeRunsOnFrom};
 ghost use Rattle.area_entry.specs.Grounds.{AreRowsOf};
 ghost use Rattle.area_entry.specs.RowSections.{AreOfOneArea, IsRowSound};
 ghost use Rattle.im_matrix.specs.declared.Loc.TheVariants as loc;

@@ -1,5 +1,6 @@
 -- The spots of a figure: the positions of its points, and of its lines whose positions are all equal.
-use Rattle.std.proofs.Common.{◌≡◌, ◌+◌, ◌<◌, ◌≤◌, ◌∙◌, ℕ, Bool, true, false, ◌&&◌, ◌||◌, List, [], ◌∷◌, length, drop, get_or, refl, sym, ap, Ordering, Less, Equal}
+use Rattle.std.proofs.Common.{◌≡◌, ◌+◌, ◌<◌, ◌≤◌, ◌∙◌, ℕ, Bool, true, false, ◌&&◌, ◌||◌, List, [], ◌∷◌, length, drop, get_or, refl, sym, ap}
+use Rattle.std.proofs.Common.{Ordering, Less, Equal}
 use Rattle.std.specs.BTreeMap.{is_at as is_key}
 use Rattle.std.specs.BTreeSet.{insert_key}
 use Rattle.std.specs.List.{list_any, list_all}

@@ -1,6 +1,7 @@
 -- Lists of rays: what a sort and the dropping of equal directions leave.
 use Rattle.std.proofs.Common.{Bool, true, false, cond, ◌≤◌, drop}
-use Rattle.std.proofs.Common.{◌≡◌, ℕ, ◌+◌, ◌<◌, List, [], ◌∷◌, ◌++◌, length, get_or, take, subst, Less, Ordering, suc, ap, refl, sym, ◌∙◌, arith}
+use Rattle.std.proofs.Common.{◌≡◌, ℕ, ◌+◌, ◌<◌, List, [], ◌∷◌, ◌++◌, length, get_or, take, subst, Less, Ordering, suc, ap, refl, sym, ◌∙◌}
+use Rattle.std.proofs.Common.{arith}
 use Rattle.std.specs.List.{All, AllPairs, AllZip, Any, Contains, dedup, dedup_from, refill}
 use Rattle.std.specs.List.Sorted.{IsPermutation, IsSorted, IsStrictlySortedBy}
 use Rattle.std.specs.Ordering.{eq_by_cmp}
@@ -28,7 +29,8 @@ Any-there P x xs h = (suc h.0, h.1, let k = h.2 in omega (arith, k), h.3, h.4)
 AllPairs-from_strict : {K : Type 0} (c : K → K → Ordering) (ks : List K) → IsStrictlySortedBy c ks → AllPairs (λ x y. c x y ≡ Less) ks
 unfolding IsStrictlySortedBy
 AllPairs-from_strict c [] h = λ i j d l m. absurd (omega (arith, m))
-AllPairs-from_strict c (k ∷ ks) h = AllPairs-cons (λ x y. c x y ≡ Less) k ks (All-from_recursion (λ y. c k y ≡ Less) ks h.0) (AllPairs-from_strict c ks h.1)
+AllPairs-from_strict c (k ∷ ks) h =
+    AllPairs-cons (λ x y. c x y ≡ Less) k ks (All-from_recursion (λ y. c k y ≡ Less) ks h.0) (AllPairs-from_strict c ks h.1)
 
 -- the directions that are left
 abbrev pub kept : List Dir → List Dir
@@ -38,22 +40,31 @@ pub kept_ascends : (mid : List Dir) → IsSorted compare_angles mid → AllPairs
 kept_ascends mid h = AllPairs-from_strict compare_angles (kept mid) (IsStrictlySortedBy-dedup compare_angles_total (λ x y. refl) mid h)
 
 pub kept_only : (old mid : List Dir) → IsPermutation old mid → All (Contains old) (kept mid)
-kept_only old mid p = All-weaker (Contains (kept mid)) (Contains old) (λ d h. Contains-permutation mid old d (IsPermutation-sym old mid p) (Contains-from_dedup (eq_by_cmp compare_angles) mid d h)) (kept mid) (All-contains_itself (kept mid))
+kept_only old mid p =
+    All-weaker (Contains (kept mid)) (Contains old)
+    (λ d h. Contains-permutation mid old d (IsPermutation-sym old mid p) (Contains-from_dedup (eq_by_cmp compare_angles) mid d h))
+    (kept mid) (All-contains_itself (kept mid))
 
 pub kept_whole : (old mid : List Dir) → IsPermutation old mid → All (λ d. Any (IsSameDirection d) (kept mid)) old
 kept_whole old mid p = All-weaker (Contains old) (λ d. Any (IsSameDirection d) (kept mid)) each old (All-contains_itself old)
   where
     each : (d : Dir) → Contains old d → Any (IsSameDirection d) (kept mid)
-    each d h = let a = Any-dedup (eq_by_cmp_equiv compare_angles_total) mid d (Contains-permutation old mid d p h) in (a.0, a.1, a.2, a.3, same_compare_angles d a.1 ((Equal-is (compare_angles d a.1)).0 a.4))
+    each d h =
+        let a = Any-dedup (eq_by_cmp_equiv compare_angles_total) mid d (Contains-permutation old mid d p h) in
+        (a.0, a.1, a.2, a.3, same_compare_angles d a.1 ((Equal-is (compare_angles d a.1)).0 a.4))
 
 -- ---- two lists side by side
-zip_push : {X Y : Type 0} (R : X → Y → Type 0) (xs : List X) (ys : List Y) (x : X) (y : Y) → AllZip R xs ys → R x y → AllZip R (xs ++ x ∷ []) (ys ++ y ∷ [])
+zip_push :
+    {X Y : Type 0} (R : X → Y → Type 0) (xs : List X) (ys : List Y) (x : X) (y : Y) → AllZip R xs ys → R x y
+    → AllZip R (xs ++ x ∷ []) (ys ++ y ∷ [])
 zip_push R [] [] x y h r = (r, tt)
 zip_push R [] (b ∷ bs) x y h r = absurd h
 zip_push R (a ∷ as_) [] x y h r = absurd h
 zip_push R (a ∷ as_) (b ∷ bs) x y h r = (h.0, zip_push R as_ bs x y h.1 r)
 
-pub zip_more : {X Y : Type 0} (R : X → Y → Type 0) (xs : List X) (ys : List Y) (i : ℕ) (x : X) (y : Y) → i < length xs → x ≡ get_or xs i x → AllZip R (take i xs) ys → R x y → AllZip R (take (i + 1) xs) (ys ++ y ∷ [])
+pub zip_more :
+    {X Y : Type 0} (R : X → Y → Type 0) (xs : List X) (ys : List Y) (i : ℕ) (x : X) (y : Y) → i < length xs → x ≡ get_or xs i x
+    → AllZip R (take i xs) ys → R x y → AllZip R (take (i + 1) xs) (ys ++ y ∷ [])
 zip_more {X} R xs ys i x y below e h r =
     let more : take (i + 1) xs ≡ take i xs ++ x ∷ [] = take_more xs i x below ∙ ap (λ z. take i xs ++ z ∷ []) (sym e) in
     let Front : List X → Type 0 = λ front. AllZip R front (ys ++ y ∷ []) in
@@ -63,23 +74,34 @@ zip_more {X} R xs ys i x y below e h r =
 zip_left : {X Y : Type 0} (R : X → Y → Type 0) (xs : List X) (ys : List Y) → AllZip R xs ys → All (λ x. Any (R x) ys) xs
 zip_left R [] ys h = All-nil (λ x. Any (R x) ys)
 zip_left R (x ∷ xs) [] h = absurd h
-zip_left R (x ∷ xs) (y ∷ ys) h = All-cons (λ z. Any (R z) (y ∷ ys)) x xs (Any-here (R x) y ys h.0) (All-weaker (λ z. Any (R z) ys) (λ z. Any (R z) (y ∷ ys)) (λ z k. Any-there (R z) y ys k) xs (zip_left R xs ys h.1))
+zip_left R (x ∷ xs) (y ∷ ys) h =
+    All-cons (λ z. Any (R z) (y ∷ ys)) x xs (Any-here (R x) y ys h.0)
+    (All-weaker (λ z. Any (R z) ys) (λ z. Any (R z) (y ∷ ys)) (λ z k. Any-there (R z) y ys k) xs (zip_left R xs ys h.1))
 
 zip_right : {X Y : Type 0} (R : X → Y → Type 0) (xs : List X) (ys : List Y) → AllZip R xs ys → All (λ y. Any (λ x. R x y) xs) ys
 zip_right R xs [] h = All-nil (λ y. Any (λ x. R x y) xs)
 zip_right R [] (y ∷ ys) h = absurd h
-zip_right R (x ∷ xs) (y ∷ ys) h = All-cons (λ z. Any (λ w. R w z) (x ∷ xs)) y ys (Any-here (λ w. R w y) x xs h.0) (All-weaker (λ z. Any (λ w. R w z) xs) (λ z. Any (λ w. R w z) (x ∷ xs)) (λ z k. Any-there (λ w. R w z) x xs k) ys (zip_right R xs ys h.1))
+zip_right R (x ∷ xs) (y ∷ ys) h =
+    All-cons (λ z. Any (λ w. R w z) (x ∷ xs)) y ys (Any-here (λ w. R w y) x xs h.0)
+    (All-weaker (λ z. Any (λ w. R w z) xs) (λ z. Any (λ w. R w z) (x ∷ xs)) (λ z k. Any-there (λ w. R w z) x xs k) ys
+    (zip_right R xs ys h.1))
 
 -- the rays of all sections, of which each direction is kept once
-AreRaysOf-kept : (sections : List Section) (old rays : List Dir) → AllZip (λ s ray. IsRayOf s.dir ray) sections old → AllPairs (λ d e. compare_angles d e ≡ Less) rays → All (Contains old) rays → All (λ d. Any (IsSameDirection d) rays) old → AreRaysOf sections rays
+AreRaysOf-kept :
+    (sections : List Section) (old rays : List Dir) → AllZip (λ s ray. IsRayOf s.dir ray) sections old
+    → AllPairs (λ d e. compare_angles d e ≡ Less) rays → All (Contains old) rays → All (λ d. Any (IsSameDirection d) rays) old
+    → AreRaysOf sections rays
 AreRaysOf-kept sections old rays zip up only whole = record {
   ascending = up;
-  whole = All-weaker (λ s. Any (IsRayOf s.dir) old) (λ s. Any (IsRayOf s.dir) rays) along sections (zip_left (λ s ray. IsRayOf s.dir ray) sections old zip);
+  whole =
+      All-weaker (λ s. Any (IsRayOf s.dir) old) (λ s. Any (IsRayOf s.dir) rays) along sections
+      (zip_left (λ s ray. IsRayOf s.dir ray) sections old zip);
   only = All-weaker (Contains old) (λ ray. Any (λ s. IsRayOf s.dir ray) sections) of_section rays only;
 }
   where
     of_section : (ray : Dir) → Contains old ray → Any (λ s. IsRayOf s.dir ray) sections
-    of_section ray h = All-contains (λ r. Any (λ s. IsRayOf s.dir r) sections) old ray (zip_right (λ s r. IsRayOf s.dir r) sections old zip) h
+    of_section ray h =
+        All-contains (λ r. Any (λ s. IsRayOf s.dir r) sections) old ray (zip_right (λ s r. IsRayOf s.dir r) sections old zip) h
 
     along : (s : Section) → Any (IsRayOf s.dir) old → Any (IsRayOf s.dir) rays
     along s h =

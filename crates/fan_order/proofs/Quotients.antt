@@ -1,5 +1,6 @@
 -- Lowest terms: a direction divided by the greatest common divisor of its parts.
-use Rattle.std.proofs.Common.{◌≡◌, ℕ, ◌<◌, ◌≤◌, zero, suc, le_trans, ℤ, pos, ◌*ℤ◌, ◌<ℤ◌, unsigned_abs, FitsSigned, w64, ap, sym, ◌∙◌, subst, subst₂, to_z, to_z-of_z, arith}
+use Rattle.std.proofs.Common.{◌≡◌, ℕ, ◌<◌, ◌≤◌, zero, suc, le_trans, ℤ, pos, ◌*ℤ◌, ◌<ℤ◌, unsigned_abs, FitsSigned, w64, ap, sym, ◌∙◌, subst}
+use Rattle.std.proofs.Common.{subst₂, to_z, to_z-of_z, arith}
 use Rattle.std.specs.Int.{◌∣◌, IsGcd}
 use Rattle.std.specs.Int.RustNames.{int_div}
 use Rattle.std.proofs.lemmas.Int.{ints, quot_is, quot_fits, unsigned_abs-mul}
@@ -23,7 +24,8 @@ zero_abs : (x : ℤ) → unsigned_abs x ≡ 0 → x ≡ pos 0
 zero_abs x e = omega (arith, ints, e)
 
 pub way_size : (x y : ℤ) → IsWay x y → (unsigned_abs x ≤ farthest) × (unsigned_abs y ≤ farthest)
-way_size x y w = let a = w.left in let b = w.right in let c = w.bottom in let d = w.top in (omega (arith, ints, a, b), omega (arith, ints, c, d))
+way_size x y w =
+    let a = w.left in let b = w.right in let c = w.bottom in let d = w.top in (omega (arith, ints, a, b), omega (arith, ints, c, d))
 
 -- the divisor is positive
 pub divisor_pos : (x y : ℤ) (g : ℕ) → ¬ ((x ≡ pos 0) × (y ≡ pos 0)) → IsGcd (unsigned_abs x) (unsigned_abs y) g → 0 < g
@@ -50,7 +52,9 @@ part_fits x h = omega (arith, ints, h)
 counted_fits : (g : ℕ) → g ≤ farthest → FitsSigned w64 (pos g)
 counted_fits g h = omega (arith, ints, h)
 
-pub divided : (x : ℤ) (g : ℕ) → unsigned_abs x ≤ farthest → 0 < g → g ≤ farthest → g ∣ unsigned_abs x → narrow (int_div (narrow x) (to_z w64 g)) *ℤ pos g ≡ x
+pub divided :
+    (x : ℤ) (g : ℕ) → unsigned_abs x ≤ farthest → 0 < g → g ≤ farthest → g ∣ unsigned_abs x
+    → narrow (int_div (narrow x) (to_z w64 g)) *ℤ pos g ≡ x
 divided x g k h l v =
     let f = part_fits x k in
     let e = counted_fits g l in
@@ -58,7 +62,9 @@ divided x g k h l v =
     ∙ ap (λ z. z *ℤ pos g) (quot_is w64 x (pos g) f e (quot_fits w64 x (pos g) f (omega (arith, ints, h)))) ∙ exact_quotient x g v
 
 part_size : (x u : ℤ) (g : ℕ) → 0 < g → u *ℤ pos g ≡ x → unsigned_abs u ≤ unsigned_abs x
-part_size x u g h e = subst (λ (n : ℕ). unsigned_abs u ≤ n) (sym (unsigned_abs-mul u (pos g)) ∙ ap unsigned_abs e) (omega (arith, h, mul-le-mul_left (unsigned_abs u) h))
+part_size x u g h e =
+    subst (λ (n : ℕ). unsigned_abs u ≤ n) (sym (unsigned_abs-mul u (pos g)) ∙ ap unsigned_abs e)
+    (omega (arith, h, mul-le-mul_left (unsigned_abs u) h))
 
 part_zero : (x u d : ℤ) → u *ℤ d ≡ x → u ≡ pos 0 → x ≡ pos 0
 part_zero x u d e z = sym e ∙ ap (λ (v : ℤ). v *ℤ d) z ∙ zero-*ℤ d
@@ -86,7 +92,8 @@ IsWay-quotient {x} {y} {u} {v} {g} w q =
       turned = λ z. w.turned (part_zero x u (pos g) q.across z.0, part_zero y v (pos g) q.above z.1);
     }
 
-pub IsRayOf-quotient : (d r : Dir) (g : ℕ) → AreQuotients d.dx d.dy r.dx r.dy g → IsGcd (unsigned_abs d.dx) (unsigned_abs d.dy) g → IsRayOf d r
+pub IsRayOf-quotient :
+    (d r : Dir) (g : ℕ) → AreQuotients d.dx d.dy r.dx r.dy g → IsGcd (unsigned_abs d.dx) (unsigned_abs d.dy) g → IsRayOf d r
 IsRayOf-quotient d r g q h = record {
   same = record {
     m = pos 1;
@@ -96,7 +103,9 @@ IsRayOf-quotient d r g q h = record {
     across = one-*ℤ d.dx ∙ sym q.across ∙ *ℤ_comm r.dx (pos g);
     above = one-*ℤ d.dy ∙ sym q.above ∙ *ℤ_comm r.dy (pos g);
   };
-  lowest = let l = IsReduced-divided d.dx d.dy d.dy r.dx r.dy r.dy (pos g) positive q.across q.above q.above (λ e a b _. h.2 e a b) in record { only = λ e a b. l.only e a b b };
+  lowest =
+      let l = IsReduced-divided d.dx d.dy d.dy r.dx r.dy r.dy (pos g) positive q.across q.above q.above
+      (λ e a b _. h.2 e a b) in record { only = λ e a b. l.only e a b b };
 }
   where
     positive : pos 0 <ℤ pos g
@@ -113,7 +122,8 @@ module _ {x y : ℤ} {a b g : ℕ} (p : Parts x y a b g) where
   pub gcd_of : IsGcd (unsigned_abs x) (unsigned_abs y) g
   gcd_of =
       let sizes = way_size x y p.way in
-      subst₂ (λ (m n : ℕ). IsGcd m n g) (p.a_is ∙ ap unsigned_abs (to_z-of_z (part_fits x sizes.0))) (p.b_is ∙ ap unsigned_abs (to_z-of_z (part_fits y sizes.1))) p.gcd
+      subst₂ (λ (m n : ℕ). IsGcd m n g) (p.a_is ∙ ap unsigned_abs (to_z-of_z (part_fits x sizes.0)))
+      (p.b_is ∙ ap unsigned_abs (to_z-of_z (part_fits y sizes.1))) p.gcd
 
   pub some_of : 0 < g
   some_of = divisor_pos x y g p.way.turned gcd_of
@@ -124,7 +134,8 @@ module _ {x y : ℤ} {a b g : ℕ} (p : Parts x y a b g) where
   quotient_fits : (z : ℤ) → unsigned_abs z ≤ farthest → FitsSigned w64 (int_div (narrow z) (to_z w64 g))
   quotient_fits z h =
       let k = some_of in
-      subst₂ (λ (m n : ℤ). FitsSigned w64 (int_div m n)) (sym (to_z-of_z (part_fits z h))) (sym (counted g size_of)) (quot_fits w64 z (pos g) (part_fits z h) (omega (arith, ints, k)))
+      subst₂ (λ (m n : ℤ). FitsSigned w64 (int_div m n)) (sym (to_z-of_z (part_fits z h))) (sym (counted g size_of))
+      (quot_fits w64 z (pos g) (part_fits z h) (omega (arith, ints, k)))
 
   pub first_fits : FitsSigned w64 (int_div (narrow x) (to_z w64 g))
   first_fits = quotient_fits x (way_size x y p.way).0

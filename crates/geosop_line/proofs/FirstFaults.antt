@@ -1,5 +1,6 @@
 -- From the faults of each part of the line to the first fault of all.
-use Rattle.std.proofs.Common.{◌≡◌, ◌≢◌, ◌∙◌, ◌<◌, ◌+◌, inl, inr, refl, ap, sym, subst, arith, ℕ, List, [], ◌∷◌, Option, Some, None, Result, IfErr, codes, slice_index_or}
+use Rattle.std.proofs.Common.{◌≡◌, ◌≢◌, ◌∙◌, ◌<◌, ◌+◌, inl, inr, refl, ap, sym, subst, arith, ℕ, List, [], ◌∷◌, Option, Some, None, Result}
+use Rattle.std.proofs.Common.{IfErr, codes, slice_index_or}
 use Rattle.std.proofs.lemmas.Bool.{cases_lt}
 use Rattle.std.proofs.lemmas.Option.{none-some, same_Some}
 use Rattle.std.proofs.lemmas.Result.{err_from_is_err_and}
@@ -23,7 +24,8 @@ use Rattle.geosop_line.specs.declared.config.LineFault.{LineFault}
 use Rattle.geosop_line.specs.declared.config.LineFault.TheVariants.{Usage}
 use Rattle.geosop_line.specs.declared.config.Source.{Source}
 use Rattle.geosop_line.specs.declared.config.UsageFault.{UsageFault}
-use Rattle.geosop_line.specs.declared.config.UsageFault.TheVariants.{Line, Sample, Sources, Operation, Argument, BadMatch, RuleName, Threads, Scale}
+use Rattle.geosop_line.specs.declared.config.UsageFault.TheVariants.{Line, Sample, Sources, Operation, Argument, BadMatch, RuleName}
+use Rattle.geosop_line.specs.declared.config.UsageFault.TheVariants.{Threads, Scale}
 use Rattle.geosop_line.specs.declared.figures.Figures.{Figures}
 use Rattle.geosop_line.specs.declared.figures.Figures.TheVariants.{OfSample, OfSources}
 use Rattle.geosop_line.specs.declared.operation.Operation.{Operation as OneOperation}

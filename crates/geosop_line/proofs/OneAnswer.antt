@@ -1,5 +1,6 @@
 -- A command line has one configuration or one first fault, and not both.
-use Rattle.std.proofs.Common.{◌≡◌, ◌∙◌, ◌≤◌, ◌↔◌, inl, inr, refl, ap, sym, subst, arith, true, false, IsTrue, Bool, ℕ, ◌+◌, List, [], Option, Some, None, slice_index_or}
+use Rattle.std.proofs.Common.{◌≡◌, ◌∙◌, ◌≤◌, ◌↔◌, inl, inr, refl, ap, sym, subst, arith, true, false, IsTrue, Bool, ℕ, ◌+◌, List, []}
+use Rattle.std.proofs.Common.{Option, Some, None, slice_index_or}
 use mathlib.Core.HLevel.{is_prop→PathP}
 use Rattle.std.proofs.Math.Bridge.{le_prop}
 use Rattle.std.proofs.lemmas.Bool.{cases_lt}
@@ -20,7 +21,8 @@ use Rattle.geosop_line.specs.Settings.{IsRule, IsScale, IsThreads}
 use Rattle.geosop_line.specs.declared.config.Config.{Config}
 use Rattle.geosop_line.specs.declared.config.Source.{Source}
 use Rattle.geosop_line.specs.declared.config.UsageFault.{UsageFault}
-use Rattle.geosop_line.specs.declared.config.UsageFault.TheVariants.{Line, Sample, Sources, Operation, Argument, BadMatch, RuleName, Threads, Scale}
+use Rattle.geosop_line.specs.declared.config.UsageFault.TheVariants.{Line, Sample, Sources, Operation, Argument, BadMatch, RuleName}
+use Rattle.geosop_line.specs.declared.config.UsageFault.TheVariants.{Threads, Scale}
 use Rattle.geosop_line.specs.declared.operation.Operation.{Operation as OneOperation}
 use Rattle.geosop_line.specs.declared.operation.Operation.TheVariants as operation
 use Rattle.geosop_line.proofs.FirstFaults.{fault_at, fault_by_rank, place_of, query_passes, sample_passes, sources_pass}

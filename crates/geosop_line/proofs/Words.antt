@@ -1,7 +1,8 @@
 -- Different operations, rules and patterns have different words.
 use Rattle.std.proofs.Common.{◌≡◌, ◌∙◌, refl, ap, sym, arith, ℕ, List, cond, bytes_eq, codes, slice_index_or}
 use Rattle.point_set.specs.declared.rule.Rule.{Rule}
-use Rattle.im_matrix.specs.declared.names.Name.TheVariants.{Intersects, Disjoint, Contains, Within, Covers, CoveredBy, Touches, Crosses, Overlaps, Equals, ContainsProperly}
+use Rattle.im_matrix.specs.declared.names.Name.TheVariants.{Intersects, Disjoint, Contains, Within, Covers, CoveredBy, Touches, Crosses}
+use Rattle.im_matrix.specs.declared.names.Name.TheVariants.{Overlaps, Equals, ContainsProperly}
 use Rattle.im_matrix.specs.declared.patterns.Mark.{Mark}
 use Rattle.im_matrix.specs.declared.patterns.Pattern.{Pattern}
 use Rattle.im_matrix.specs.Patterns.{mark_character, pattern_text}

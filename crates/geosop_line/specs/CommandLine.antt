@@ -10,7 +10,8 @@ use Rattle.geosop_line.specs.declared.config.Config.{Config}
 use Rattle.geosop_line.specs.declared.config.LineFault.{LineFault}
 use Rattle.geosop_line.specs.declared.config.LineFault.TheVariants.{Usage, NoMemory}
 use Rattle.geosop_line.specs.declared.config.UsageFault.{UsageFault}
-use Rattle.geosop_line.specs.declared.config.UsageFault.TheVariants.{Line, Sample, Sources, Operation, Argument, BadMatch, RuleName, Threads, Scale}
+use Rattle.geosop_line.specs.declared.config.UsageFault.TheVariants.{Line, Sample, Sources, Operation, Argument, BadMatch, RuleName}
+use Rattle.geosop_line.specs.declared.config.UsageFault.TheVariants.{Threads, Scale}
 
 -- What the matches say of each part of the configuration.
 pub record IsConfig (rows : List Row) (config : Config) : Type 0 where

@@ -1,7 +1,8 @@
 -- The words of the operations, which are told apart by case too.
 use Rattle.std.specs.Prelude.{◌≡◌, ◌⊎◌, ℕ, List, Some, None, IsSome, codes}
 use Rattle.im_matrix.specs.declared.names.Name.{Name}
-use Rattle.im_matrix.specs.declared.names.Name.TheVariants.{Intersects, Disjoint, Contains, Within, Covers, CoveredBy, Touches, Crosses, Overlaps, Equals, ContainsProperly}
+use Rattle.im_matrix.specs.declared.names.Name.TheVariants.{Intersects, Disjoint, Contains, Within, Covers, CoveredBy, Touches, Crosses}
+use Rattle.im_matrix.specs.declared.names.Name.TheVariants.{Overlaps, Equals, ContainsProperly}
 use Rattle.im_matrix.specs.Patterns.{HasFaultAt, pattern_text}
 use Rattle.topo_pred.specs.declared.Query.{Query}
 use Rattle.topo_pred.specs.declared.Query.TheVariants as query

@@ -3,7 +3,8 @@ ghost use Rattle.std.specs.Prelude.{◌≡◌, [], IfOk, IfErr, map, string_byte
 ghost use Rattle.clap.specs.Matches.{found_of};
 ghost use Rattle.clap.specs.Walk.{rows_of, rule_of};
 ghost use Rattle.clap.specs.Simple.{app_of};
-ghost use Rattle.geosop_line.specs.Arguments.{command as command_so, arguments as arguments_so, letter_option as letter_option_so, named_option as named_option_so, flag as flag_so, matches, refusals};
+ghost use Rattle.geosop_line.specs.Arguments.{command as command_so, arguments as arguments_so, letter_option as letter_option_so};
+ghost use Rattle.geosop_line.specs.Arguments.{named_option as named_option_so, flag as flag_so, matches, refusals};
 ghost use Rattle.geosop_line.specs.Steps.{IsToldOf};
 
 use crate::config::{LineFault, UsageFault};

@@ -1,5 +1,6 @@
 -- A table's entries when a node is put in: which points are listed then, and what holds of the entries.
-use Rattle.std.proofs.Common.{◌≡◌, ◌⊎◌, inl, inr, ℕ, zero, suc, ◌<◌, List, [], ◌∷◌, ◌++◌, length, get_or, append_assoc, ap, refl, sym, ◌∙◌, subst, arith, Ordering, Less, Equal}
+use Rattle.std.proofs.Common.{◌≡◌, ◌⊎◌, inl, inr, ℕ, zero, suc, ◌<◌, List, [], ◌∷◌, ◌++◌, length, get_or, append_assoc, ap, refl, sym, ◌∙◌}
+use Rattle.std.proofs.Common.{subst, arith, Ordering, Less, Equal}
 use Rattle.std.specs.List.{All}
 use Rattle.std.specs.Ordering.{match_ordering}
 use Rattle.std.specs.declared.cmp.Ordering.TheVariants.{Greater}

@@ -91,7 +91,8 @@ module _ {at_a at_b : DimLoc} {sections : List Section} {rays : List Dir} {n : �
   ray_taken h below {c} {e} same germ {r} k = record {
     taken = λ a b rule v seen.
         let at = item_at rays n below in
-        let here = λ (ray : Dir) (is : IsAtPlace rays n ray). subst (IsPairGerm a b rule v (direction_of ray)) (sym same) (germ a b rule v seen ray is) in
+        let here = λ (ray : Dir) (is : IsAtPlace rays n ray). subst (IsPairGerm a b rule v (direction_of ray)) (sym same)
+        (germ a b rule v seen ray is) in
         before_more c (record { ray = at.item; ray_is = at.is; germ = here at.item at.is })
         (λ f x. pair_germ_one a b rule v (direction_of x.ray) f c x.germ (here x.ray x.ray_is)) p q r (h.taken a b rule v seen) k;
   }
@@ -122,7 +123,8 @@ module _ {at_a at_b : DimLoc} {sections : List Section} {rays : List Dir} {n : �
       → (a b : Figure) (rule : Rule) (v : Point) → AreSeenAt a b rule v at_a at_b sections → HasTakenIn (IsSampleOf Two a b rule v) p q
   sectors_all h of past a b rule v seen =
       let are = edge_directions a b v sections rays seen.sections_a seen.sections_b of in
-      before_all past (sample_within a b seen.valid rule v rays are) (within_sample a b seen.valid rule v rays are) (h.taken a b rule v seen)
+      before_all past (sample_within a b seen.valid rule v rays are) (within_sample a b seen.valid rule v rays are)
+      (h.taken a b rule v seen)
 
 -- ---- the three kinds of samples at a node
 -- dimension Zero of the node's own cell, or a sample along an edge direction

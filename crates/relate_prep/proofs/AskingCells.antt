@@ -1,6 +1,7 @@
 -- Cells of areas that are asked for one by one: each stays the cell of its area, is the same cell later, and those of far areas stay as
 -- they were.
-use Rattle.std.proofs.Common.{◌≡◌, ◌⊎◌, inl, inr, ℕ, zero, suc, ◌+◌, ◌<◌, ◌≤◌, List, [], ◌∷◌, length, get_or, set, refl, sym, ◌∙◌, ap, subst, arith}
+use Rattle.std.proofs.Common.{◌≡◌, ◌⊎◌, inl, inr, ℕ, zero, suc, ◌+◌, ◌<◌, ◌≤◌, List, [], ◌∷◌, length, get_or, set, refl, sym, ◌∙◌, ap}
+use Rattle.std.proofs.Common.{subst, arith}
 use Rattle.std.specs.Prelude.{Result, Ok, Err, OnOk, map, slice_get}
 use Rattle.std.specs.Option.{option_map}
 use Rattle.std.proofs.lemmas.Bool.{cases_eq, cases_lt}
@@ -147,7 +148,8 @@ kept_at areas p old new k area d kept at near place other is far = elim (cases_e
 -- the one at the next place is asked for
 pub asked_here :
     (areas : List Area) (p : Point) (old new : List SeenCell) (places : List ℕ) (i : ℕ) (c d : SeenCell)
-    → AreAskedTo areas p old new places i → IsShellNearAt areas p (get_or places i 0) → IsAtPlace new (get_or places i 0) c → IsLater c d → WasAsked d
+    → AreAskedTo areas p old new places i → IsShellNearAt areas p (get_or places i 0) → IsAtPlace new (get_or places i 0) c → IsLater c d
+    → WasAsked d
     → AreAskedTo areas p old (set new (get_or places i 0) d) places (i + 1)
 asked_here areas p old new places i c d to near at_c later asked = record {
   later = later_at old new k c d to.later at_c later;
@@ -214,7 +216,8 @@ pub name_here : {X : Type 0} (name : X → ℕ) (xs : List X) {f : Figure} {p : 
 name_here name xs {f} {p} {old} {new} {places} {i} h below {c} is {x} x_is =
     let within : get_or places i 0 < length xs = omega (arith, name_within h below, length-map xs name) in
     ap (λ (z : SeenCell). z.name) (sym is)
-    ∙ name_at name f xs new h.cells (get_or places i 0) c x (at_place h below is) (slice_get_read xs (length xs) (get_or places i 0) x refl within x_is)
+    ∙ name_at name f xs new h.cells (get_or places i 0) c x (at_place h below is)
+    (slice_get_read xs (length xs) (get_or places i 0) x refl within x_is)
 
 -- with all places passed, all near areas were asked for
 pub asked_all :

@@ -8,7 +8,9 @@ use Rattle.figure_laws.proofs.Lists.Places.{some_same}
 use Rattle.relate_prep.specs.Cells.{SeenCell, IsOrigin, IsCellOver, AreAreaCells, area_edges, new_cell}
 
 -- each of new cells is new
-new_at : (names : List ℕ) (place : ℕ) (c : SeenCell) (edges : List Seg) → IsAtPlace (map new_cell names) place c → IsOrigin edges c.known c.origin
+new_at :
+    (names : List ℕ) (place : ℕ) (c : SeenCell) (edges : List Seg) → IsAtPlace (map new_cell names) place c
+    → IsOrigin edges c.known c.origin
 new_at [] place c edges at = cc
 new_at (name ∷ names) zero c edges at = subst (λ (z : SeenCell). IsOrigin edges z.known z.origin) (some_same at) refl
 new_at (name ∷ names) (suc place) c edges at = new_at names place c edges at

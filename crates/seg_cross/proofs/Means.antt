@@ -14,7 +14,9 @@ pub widened : (r z : ℤ) (m : ℕ) → r ≡ narrow z → unsigned_abs z ≤ m 
 widened r z m e h b b' = stored w128 (via e (read w64 z h b)) b'
 
 -- the weighted sum is within the limit times the sum of the weights
-pub IsFraction-mean : (f s a b : ℤ) → pos 0 ≤ℤ f → pos 0 ≤ℤ s → unsigned_abs f ≤ widest → unsigned_abs s ≤ widest → unsigned_abs a ≤ limit → unsigned_abs b ≤ limit → pos 0 <ℤ (f +ℤ s) → IsFraction (f *ℤ a +ℤ s *ℤ b) (f +ℤ s)
+pub IsFraction-mean :
+    (f s a b : ℤ) → pos 0 ≤ℤ f → pos 0 ≤ℤ s → unsigned_abs f ≤ widest → unsigned_abs s ≤ widest → unsigned_abs a ≤ limit
+    → unsigned_abs b ≤ limit → pos 0 <ℤ (f +ℤ s) → IsFraction (f *ℤ a +ℤ s *ℤ b) (f +ℤ s)
 IsFraction-mean f s a b hf hs mf ms ha hb some =
     let all = *ℤ-+ℤ (pos limit) f s in
     let fl = *ℤ_comm (pos limit) f in
@@ -26,14 +28,43 @@ IsFraction-mean f s a b hf hs mf ms ha hb some =
     record {
       heavy = some;
       light = omega (arith, ints, mf, ms);
-      low = omega (arith, linear, all, fl, sl, nonneg-*-nonneg hf a_low, nonneg-*-nonneg hs b_low, *ℤ-+ℤ f a (pos limit), *ℤ-+ℤ s b (pos limit));
-      high = omega (arith, linear, all, fl, sl, nonneg-*-nonneg hf a_high, nonneg-*-nonneg hs b_high, *ℤ--ℤ f (pos limit) a, *ℤ--ℤ s (pos limit) b);
+      low =
+          omega (
+            arith,
+            linear,
+            all,
+            fl,
+            sl,
+            nonneg-*-nonneg hf a_low,
+            nonneg-*-nonneg hs b_low,
+            *ℤ-+ℤ f a (pos limit),
+            *ℤ-+ℤ s b
+                (pos limit),
+          );
+      high =
+          omega (
+            arith,
+            linear,
+            all,
+            fl,
+            sl,
+            nonneg-*-nonneg hf a_high,
+            nonneg-*-nonneg hs b_high,
+            *ℤ--ℤ f (pos limit) a,
+            *ℤ--ℤ s
+                (pos limit) b,
+          );
     }
 
 -- what the code adds up
-pub weights : (r q f s : ℤ) → r ≡ narrow f → q ≡ narrow s → unsigned_abs f ≤ widest → unsigned_abs s ≤ widest → Computes (wide r +ℤ wide q) (f +ℤ s) (widest + widest)
+pub weights :
+    (r q f s : ℤ) → r ≡ narrow f → q ≡ narrow s → unsigned_abs f ≤ widest → unsigned_abs s ≤ widest
+    → Computes (wide r +ℤ wide q) (f +ℤ s) (widest + widest)
 weights r q f s e d hf hs = sum (widened r f widest e hf refl refl) (widened q s widest d hs refl refl)
 
-pub mean_of : (m f a s b : ℤ) → m ≡ narrow f *ℤ narrow a +ℤ narrow s *ℤ narrow b → unsigned_abs f ≤ widest → unsigned_abs a ≤ limit → unsigned_abs s ≤ widest → unsigned_abs b ≤ limit → wide m ≡ f *ℤ a +ℤ s *ℤ b
+pub mean_of :
+    (m f a s b : ℤ) → m ≡ narrow f *ℤ narrow a +ℤ narrow s *ℤ narrow b → unsigned_abs f ≤ widest → unsigned_abs a ≤ limit
+    → unsigned_abs s ≤ widest → unsigned_abs b ≤ limit → wide m ≡ f *ℤ a +ℤ s *ℤ b
 mean_of m f a s b e hf ha hs hb =
-    (stored w128 (via e (sum (product (read w64 f hf refl) (read w64 a ha refl)) (product (read w64 s hs refl) (read w64 b hb refl)))) refl).is
+    (stored w128
+    (via e (sum (product (read w64 f hf refl) (read w64 a ha refl)) (product (read w64 s hs refl) (read w64 b hb refl)))) refl).is

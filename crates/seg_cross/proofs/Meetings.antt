@@ -1,5 +1,6 @@
 -- What the four turns of two segments say of their common points.
-use Rattle.std.proofs.Common.{◌≡◌, ◌≤◌, ◌↔◌, IsTrue, Bool, false, subst₂, inl, inr, ℤ, pos, ◌+ℤ◌, ◌-ℤ◌, ◌*ℤ◌, neg_ℤ, ◌<ℤ◌, ◌≤ℤ◌, unsigned_abs, w64, [], ◌∷◌, refl, sym, ◌∙◌, subst, arith}
+use Rattle.std.proofs.Common.{◌≡◌, ◌≤◌, ◌↔◌, IsTrue, Bool, false, subst₂, inl, inr, ℤ, pos, ◌+ℤ◌, ◌-ℤ◌, ◌*ℤ◌, neg_ℤ, ◌<ℤ◌, ◌≤ℤ◌}
+use Rattle.std.proofs.Common.{unsigned_abs, w64, [], ◌∷◌, refl, sym, ◌∙◌, subst, arith}
 use Rattle.std.proofs.lemmas.Int.{by_lt_z}
 use Rattle.whole_algebra.proofs.Computed.{Computes, negation, stored, narrow}
 use Rattle.std.proofs.lemmas.Bool.{false≢true}
@@ -41,11 +42,17 @@ both_zero a b n e = by_sign a
     (λ h. absurd (n (inl (h, omega (arith, linear, h, e)))))
 
 -- both ends of the second segment on one side of the first one's line
-pub apart_by_second : (s t : Seg) → IsOneSide (turn (point_of s.a) (point_of s.b) (point_of t.a)) (turn (point_of s.a) (point_of s.b) (point_of t.b)) → (p : Point) → ¬ IsCommon s t p
-apart_by_second s t (inl h) p both = apart_left (point_of s.a) (point_of s.b) (point_of t.a) (point_of t.b) p h.0 h.1 both.second (mix_turn both.first.mix)
-apart_by_second s t (inr h) p both = apart_right (point_of s.a) (point_of s.b) (point_of t.a) (point_of t.b) p h.0 h.1 both.second (mix_turn both.first.mix)
+pub apart_by_second :
+    (s t : Seg) → IsOneSide (turn (point_of s.a) (point_of s.b) (point_of t.a)) (turn (point_of s.a) (point_of s.b) (point_of t.b))
+    → (p : Point) → ¬ IsCommon s t p
+apart_by_second s t (inl h) p both =
+    apart_left (point_of s.a) (point_of s.b) (point_of t.a) (point_of t.b) p h.0 h.1 both.second (mix_turn both.first.mix)
+apart_by_second s t (inr h) p both =
+    apart_right (point_of s.a) (point_of s.b) (point_of t.a) (point_of t.b) p h.0 h.1 both.second (mix_turn both.first.mix)
 
-pub apart_by_first : (s t : Seg) → IsOneSide (turn (point_of t.a) (point_of t.b) (point_of s.a)) (turn (point_of t.a) (point_of t.b) (point_of s.b)) → (p : Point) → ¬ IsCommon s t p
+pub apart_by_first :
+    (s t : Seg) → IsOneSide (turn (point_of t.a) (point_of t.b) (point_of s.a)) (turn (point_of t.a) (point_of t.b) (point_of s.b))
+    → (p : Point) → ¬ IsCommon s t p
 apart_by_first s t h p both = apart_by_second t s h p (record { first = both.second; second = both.first })
 
 -- ---- the four turns of two segments
@@ -64,10 +71,14 @@ module _ (s t : Seg) where
 
   -- they differ by the same number
   pub differences : of_b -ℤ of_a ≡ to_a -ℤ to_b
-  differences = (λ i. sym (*ℤ_one of_b) i -ℤ sym (*ℤ_one of_a) i) ∙ crossing_w (point_of s.a) (point_of s.b) (point_of t.a) (point_of t.b) ∙ (λ i. *ℤ_one to_a i -ℤ *ℤ_one to_b i)
+  differences =
+      (λ i. sym (*ℤ_one of_b) i -ℤ sym (*ℤ_one of_a) i) ∙ crossing_w (point_of s.a) (point_of s.b) (point_of t.a) (point_of t.b)
+      ∙ (λ i. *ℤ_one to_a i -ℤ *ℤ_one to_b i)
 
   -- the mean of the first one's ends under the two turns, the first negative
-  pub crossing_ahead : (q : Point) (f g : ℤ) → of_a <ℤ of_b → ¬ IsOneSide of_a of_b → ¬ IsOneSide to_a to_b → f ≡ of_b → g ≡ neg_ℤ of_a → IsAt q (f *ℤ s.a.x +ℤ g *ℤ s.b.x) (f *ℤ s.a.y +ℤ g *ℤ s.b.y) (f +ℤ g) → IsOnlyCommon s t q
+  pub crossing_ahead :
+      (q : Point) (f g : ℤ) → of_a <ℤ of_b → ¬ IsOneSide of_a of_b → ¬ IsOneSide to_a to_b → f ≡ of_b → g ≡ neg_ℤ of_a
+      → IsAt q (f *ℤ s.a.x +ℤ g *ℤ s.b.x) (f *ℤ s.a.y +ℤ g *ℤ s.b.y) (f +ℤ g) → IsOnlyCommon s t q
   crossing_ahead q f g h n m ef eg at = record {
     common = record { first = on_first a b c d q placed some sides.0 sides.1; second = on_second a b c d q placed some ends.1 ends.0 };
     only = λ p both. only a b c d q placed some p both.first both.second;
@@ -86,7 +97,9 @@ module _ (s t : Seg) where
       d = point_of t.b
 
       moved : (x y : ℤ) → f *ℤ x +ℤ g *ℤ y ≡ of_b *ℤ x -ℤ of_a *ℤ y
-      moved x y = (λ i. ef i *ℤ x +ℤ eg i *ℤ y) ∙ identity (var 0 ⊗ var 2 ⊕ minus (var 1) ⊗ var 3) (var 0 ⊗ var 2 ⊖ var 1 ⊗ var 3) (of_b ∷ of_a ∷ x ∷ y ∷ []) refl
+      moved x y =
+          (λ i. ef i *ℤ x +ℤ eg i *ℤ y)
+          ∙ identity (var 0 ⊗ var 2 ⊕ minus (var 1) ⊗ var 3) (var 0 ⊗ var 2 ⊖ var 1 ⊗ var 3) (of_b ∷ of_a ∷ x ∷ y ∷ []) refl
 
       weight : f +ℤ g ≡ of_b *ℤ pos 1 -ℤ of_a *ℤ pos 1
       weight = (λ i. ef i +ℤ eg i) ∙ (λ i. sym (*ℤ_one of_b) i -ℤ sym (*ℤ_one of_a) i)
@@ -106,9 +119,12 @@ module _ (s t : Seg) where
       ends : (pos 0 ≤ℤ to_a) × (to_b ≤ℤ pos 0)
       ends = against_order to_a to_b m (omega (arith, linear, h, differences))
 
-pub crossing_back : (s t : Seg) (q : Point) (f g : ℤ) → of_b s t <ℤ of_a s t → ¬ IsOneSide (of_a s t) (of_b s t) → ¬ IsOneSide (to_a s t) (to_b s t) → f ≡ neg_ℤ (of_b s t) → g ≡ of_a s t → IsAt q (f *ℤ s.a.x +ℤ g *ℤ s.b.x) (f *ℤ s.a.y +ℤ g *ℤ s.b.y) (f +ℤ g) → IsOnlyCommon s t q
+pub crossing_back :
+    (s t : Seg) (q : Point) (f g : ℤ) → of_b s t <ℤ of_a s t → ¬ IsOneSide (of_a s t) (of_b s t) → ¬ IsOneSide (to_a s t) (to_b s t)
+    → f ≡ neg_ℤ (of_b s t) → g ≡ of_a s t → IsAt q (f *ℤ s.a.x +ℤ g *ℤ s.b.x) (f *ℤ s.a.y +ℤ g *ℤ s.b.y) (f +ℤ g) → IsOnlyCommon s t q
 crossing_back s t q f g h n m ef eg at =
-    let turned = crossing_ahead s flipped q f g (omega (arith, linear, h, back_a, back_b)) (λ k. n (turned_sides k)) (λ k. m (swapped_sides k)) (ef ∙ sym back_b) (eg ∙ back (of_a s t) (of_a s flipped) back_a) at in
+    let turned = crossing_ahead s flipped q f g (omega (arith, linear, h, back_a, back_b)) (λ k. n (turned_sides k))
+    (λ k. m (swapped_sides k)) (ef ∙ sym back_b) (eg ∙ back (of_a s t) (of_a s flipped) back_a) at in
     record {
       common = record { first = turned.common.first; second = segment_flip turned.common.second };
       only = λ p both. turned.only p (record { first = both.first; second = segment_flip both.second });
@@ -135,8 +151,11 @@ crossing_back s t q f g h n m ef eg at =
     swapped_sides (inr k) = inr (k.1, k.0)
 
 -- ---- what the code has learned of the two turns r and q, which stand for x and y
-pub not_one_side : (r q x y : ℤ) (b : Bool) → r ≡ x → unsigned_abs r ≤ widest → q ≡ y → unsigned_abs q ≤ widest → (IsTrue b ↔ IsOneSide (narrow r) (narrow q)) → b ≡ false → ¬ IsOneSide x y
-not_one_side r q x y b e h f k test failed side = false≢true (sym failed ∙ test.1 (subst₂ IsOneSide (sym (plain_turn r x e h).is) (sym (plain_turn q y f k).is) side))
+pub not_one_side :
+    (r q x y : ℤ) (b : Bool) → r ≡ x → unsigned_abs r ≤ widest → q ≡ y → unsigned_abs q ≤ widest
+    → (IsTrue b ↔ IsOneSide (narrow r) (narrow q)) → b ≡ false → ¬ IsOneSide x y
+not_one_side r q x y b e h f k test failed side =
+    false≢true (sym failed ∙ test.1 (subst₂ IsOneSide (sym (plain_turn r x e h).is) (sym (plain_turn q y f k).is) side))
 
 pub as_turns : (r q x y : ℤ) → r ≡ x → unsigned_abs r ≤ widest → q ≡ y → unsigned_abs q ≤ widest → narrow r <ℤ narrow q → x <ℤ y
 as_turns r q x y e h f k less = subst₂ ◌<ℤ◌ (plain_turn r x e h).is (plain_turn q y f k).is less

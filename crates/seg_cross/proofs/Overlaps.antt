@@ -1,5 +1,6 @@
 -- The common points of two segments of one line, by the order of their ends.
-use Rattle.std.proofs.Common.{◌≡◌, ◌≢◌, ◌⊎◌, inl, inr, false, pos, ◌+ℤ◌, ◌*ℤ◌, Ordering, Less, Equal, Greater, refl, sym, ◌∙◌, ap, subst, subst₂}
+use Rattle.std.proofs.Common.{◌≡◌, ◌≢◌, ◌⊎◌, inl, inr, false, pos, ◌+ℤ◌, ◌*ℤ◌, Ordering, Less, Equal, Greater, refl, sym, ◌∙◌, ap, subst}
+use Rattle.std.proofs.Common.{subst₂}
 use Rattle.std.specs.Ordering.{is_gt, ordering_reverse}
 use Rattle.std.proofs.lemmas.Cmp.{upto, tied_itself}
 use lib.IntN.{*ℤ-zero}
@@ -29,7 +30,9 @@ is_not_greater Equal e h = cc
 is_not_greater Greater e h = cc
 
 AtMost-trans : (p q r : Point) → AtMost p q → AtMost q r → AtMost p r
-AtMost-trans p q r h k = is_not_greater (compare_points p r) (upto compare_points_total p q r (not_greater (compare_points p q) h) (not_greater (compare_points q r) k))
+AtMost-trans p q r h k =
+    is_not_greater (compare_points p r)
+    (upto compare_points_total p q r (not_greater (compare_points p q) h) (not_greater (compare_points q r) k))
 
 AtMost-refl : (p : Point) → AtMost p p
 AtMost-refl p e = clash (sym (tied_itself compare_points_total p) ∙ e)
@@ -87,7 +90,10 @@ same_position p q s =
 
 -- positions of which neither is before the other are one
 pub one_position : (p q : Pt) → ¬ IsBefore (point_of p) (point_of q) → ¬ IsBefore (point_of q) (point_of p) → p ≡ q
-one_position p q n m = same_position p q (same_from_AtMost (point_of p) (point_of q) (AtMost-from_not_before (point_of p) (point_of q) m) (AtMost-from_not_before (point_of q) (point_of p) n))
+one_position p q n m =
+    same_position p q
+    (same_from_AtMost (point_of p) (point_of q) (AtMost-from_not_before (point_of p) (point_of q) m)
+    (AtMost-from_not_before (point_of q) (point_of p) n))
 
 -- ---- the earlier and the later of two positions
 -- z is x where p is before q, and else y
@@ -161,13 +167,21 @@ ordered s low high apart e f = go (decide_before (point_of s.a) (point_of s.b))
   where
     go : IsBefore (point_of s.a) (point_of s.b) ⊎ (¬ IsBefore (point_of s.a) (point_of s.b)) → Ordered s low high
     go (inl h) = subst₂ (Ordered s) (sym (e.first h)) (sym (f.first h)) (record { ahead = h; onto = λ p on. on; back = λ p on. on })
-    go (inr n) = subst₂ (Ordered s) (sym (e.second n)) (sym (f.second n)) (record { ahead = before_from_apart (point_of s.a) (point_of s.b) n (λ k. apart (same_position s.a s.b k)); onto = λ p on. segment_flip on; back = λ p on. segment_flip on })
+    go (inr n) =
+        subst₂ (Ordered s) (sym (e.second n)) (sym (f.second n))
+        (record {
+          ahead = before_from_apart (point_of s.a) (point_of s.b) n
+              (λ k. apart (same_position s.a s.b k));
+          onto = λ p on. segment_flip on;
+          back = λ p on. segment_flip on;
+        })
 
 -- a segment between two points of a line is on the line
 line_mix : (a b c d p : Point) → turn a b c ≡ pos 0 → turn a b d ≡ pos 0 → IsOnSegment c d p → turn a b p ≡ pos 0
 line_mix a b c d p hc hd on =
     let m = on.mix in
-    zero_factor m.times (turn a b p) (pos_nonzero m.some) (turn-mix c d p on.s on.t m a b ∙ (λ i. on.s *ℤ hc i +ℤ on.t *ℤ hd i) ∙ (λ i. *ℤ-zero on.s i +ℤ *ℤ-zero on.t i))
+    zero_factor m.times (turn a b p) (pos_nonzero m.some)
+    (turn-mix c d p on.s on.t m a b ∙ (λ i. on.s *ℤ hc i +ℤ on.t *ℤ hd i) ∙ (λ i. *ℤ-zero on.s i +ℤ *ℤ-zero on.t i))
 
 -- ---- two segments of one line, and what lies between the later beginning and the earlier end
 module _ (s t : Seg) (s_low s_high t_low t_high low high : Pt) (e : AreEnds s t s_low s_high t_low t_high low high)
@@ -202,7 +216,9 @@ module _ (s t : Seg) (s_low s_high t_low t_high low high : Pt) (e : AreEnds s t 
   high_line : on_line high
   high_line = earlier_has on_line s_high t_high high e.ends s_high_line t_high_line
 
-  one_line : (p q r : Point) → turn (point_of s.a) (point_of s.b) p ≡ pos 0 → turn (point_of s.a) (point_of s.b) q ≡ pos 0 → turn (point_of s.a) (point_of s.b) r ≡ pos 0 → turn p q r ≡ pos 0
+  one_line :
+      (p q r : Point) → turn (point_of s.a) (point_of s.b) p ≡ pos 0 → turn (point_of s.a) (point_of s.b) q ≡ pos 0
+      → turn (point_of s.a) (point_of s.b) r ≡ pos 0 → turn p q r ≡ pos 0
   one_line p q r = three_on_line (point_of s.a) (point_of s.b) p q r (λ k. s_apart (same_position s.a s.b k))
 
   pub range_of : (p : Point) → IsCommon s t p → AtMost (point_of low) p × AtMost p (point_of high)
@@ -213,20 +229,33 @@ module _ (s t : Seg) (s_low s_high t_low t_high low high : Pt) (e : AreEnds s t 
         earlier_has (λ (z : Pt). AtMost p (point_of z)) s_high t_high high e.ends first.1 second.1,
       )
 
-  pub common_from : (p : Point) → turn (point_of s.a) (point_of s.b) p ≡ pos 0 → AtMost (point_of low) p → AtMost p (point_of high) → IsCommon s t p
+  pub common_from :
+      (p : Point) → turn (point_of s.a) (point_of s.b) p ≡ pos 0 → AtMost (point_of low) p → AtMost p (point_of high) → IsCommon s t p
   common_from p on below above =
       let lows = later_bounds s_low t_low low e.begins in
       let highs = earlier_bounds s_high t_high high e.ends in
       record {
-        first = first_ordered.back p (on_segment-from_AtMost (point_of s_low) (point_of s_high) p first_ordered.ahead (one_line (point_of s_low) (point_of s_high) p s_low_line s_high_line on) (AtMost-trans (point_of s_low) (point_of low) p lows.0 below) (AtMost-trans p (point_of high) (point_of s_high) above highs.0));
-        second = second_ordered.back p (on_segment-from_AtMost (point_of t_low) (point_of t_high) p second_ordered.ahead (one_line (point_of t_low) (point_of t_high) p t_low_line t_high_line on) (AtMost-trans (point_of t_low) (point_of low) p lows.1 below) (AtMost-trans p (point_of high) (point_of t_high) above highs.1));
+        first =
+            first_ordered.back p
+            (on_segment-from_AtMost (point_of s_low) (point_of s_high) p first_ordered.ahead
+            (one_line (point_of s_low) (point_of s_high) p s_low_line s_high_line on)
+            (AtMost-trans (point_of s_low) (point_of low) p lows.0 below) (AtMost-trans p (point_of high) (point_of s_high) above highs.0));
+        second =
+            second_ordered.back p
+            (on_segment-from_AtMost (point_of t_low) (point_of t_high) p second_ordered.ahead
+            (one_line (point_of t_low) (point_of t_high) p t_low_line t_high_line on)
+            (AtMost-trans (point_of t_low) (point_of low) p lows.1 below) (AtMost-trans p (point_of high) (point_of t_high) above highs.1));
       }
 
   pub overlap_along : IsBefore (point_of low) (point_of high) → IsOverlap s t low high
   overlap_along ahead = record {
     ordered = ahead;
-    covered = λ r both. on_segment-from_AtMost (point_of low) (point_of high) r ahead (one_line (point_of low) (point_of high) r low_line high_line (mix_turn both.first.mix)) (range_of r both).0 (range_of r both).1;
-    common = λ r on. let between = on_segment-AtMost (point_of low) (point_of high) r ahead on in common_from r (line_mix (point_of s.a) (point_of s.b) (point_of low) (point_of high) r low_line high_line on) between.0 between.1;
+    covered =
+        λ r both. on_segment-from_AtMost (point_of low) (point_of high) r ahead
+        (one_line (point_of low) (point_of high) r low_line high_line (mix_turn both.first.mix)) (range_of r both).0 (range_of r both).1;
+    common =
+        λ r on. let between = on_segment-AtMost (point_of low) (point_of high) r ahead on in common_from r
+        (line_mix (point_of s.a) (point_of s.b) (point_of low) (point_of high) r low_line high_line on) between.0 between.1;
   }
 
   pub overlap_at : low ≡ high → IsOnlyCommon s t (point_of low)
@@ -240,7 +269,8 @@ module _ (s t : Seg) (s_low s_high t_low t_high low high : Pt) (e : AreEnds s t 
   pub overlap_apart : IsBefore (point_of high) (point_of low) → (p : Point) → ¬ IsCommon s t p
   overlap_apart back p both =
       let between = range_of p both in
-      AtMost-trans (point_of low) p (point_of high) between.0 between.1 (compare_points_total.antisymm (point_of low) (point_of high) ∙ ap ordering_reverse back)
+      AtMost-trans (point_of low) p (point_of high) between.0 between.1
+      (compare_points_total.antisymm (point_of low) (point_of high) ∙ ap ordering_reverse back)
 
 -- ---- what other crates need of an overlap
 -- its ends are two points

@@ -23,7 +23,8 @@ pub(crate) fn crossing(s: Seg, first: i64, second: i64) -> Node
     requires first_size { unsigned_abs first ≤ widest }
     requires second_size { unsigned_abs second ≤ widest }
     requires some { pos 0 <ℤ (first +ℤ second) }
-    ensures mean { IsAt (point_at result) ((first *ℤ s.a.x) +ℤ (second *ℤ s.b.x)) ((first *ℤ s.a.y) +ℤ (second *ℤ s.b.y)) (first +ℤ second) }
+    ensures mean { IsAt (point_at result) ((first *ℤ s.a.x) +ℤ (second *ℤ s.b.x)) ((first *ℤ s.a.y) +ℤ (second *ℤ s.b.y))
+        (first +ℤ second) }
 {
     Node::reduce(
         mean(first, s.a.x, second, s.b.x),

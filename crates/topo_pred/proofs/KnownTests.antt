@@ -36,7 +36,8 @@ rising-and p q rp rq now later more h =
     and-later (p now) (q now) (p later) (q later) (rp now later more) (rq now later more) h
 
 -- a value that no later matrix can change
-pub known_value : (test : Matrix → Bool) (m : Matrix) (v : Bool) → ((later : Matrix) → IsAtLeast later m → test later ≡ v) → IsKnown test m (Some v)
+pub known_value :
+    (test : Matrix → Bool) (m : Matrix) (v : Bool) → ((later : Matrix) → IsAtLeast later m → test later ≡ v) → IsKnown test m (Some v)
 known_value test m v all = all
 
 -- no value, where two later matrices give different ones

@@ -51,7 +51,8 @@ abbrev moved_by : (Mark → Dim → Dim) → Pattern → Matrix → Matrix
 moved_by f p m = matrix_by (λ c. f (mark_at p c) (dimension_at m c))
 
 -- what is in its cells
-in_moved : (f : Mark → Dim → Dim) (p : Pattern) (m : Matrix) (c : Cell) → dimension_at (moved_by f p m) c ≡ f (mark_at p c) (dimension_at m c)
+in_moved :
+    (f : Mark → Dim → Dim) (p : Pattern) (m : Matrix) (c : Cell) → dimension_at (moved_by f p m) c ≡ f (mark_at p c) (dimension_at m c)
 in_moved f p m c = dimension_at-matrix_by (λ d. f (mark_at p d) (dimension_at m d)) c
 
 -- it is at least the matrix where each move is upwards
@@ -74,9 +75,12 @@ abbrev holds : Pattern → Matrix → Cell → Bool
 holds p m c = holds_for_good (mark_at p c) (dimension_at m c)
 
 -- where one test hands its value on to another at each cell, all of the one are worth all of the other
-all-alike : (one other : Cell → Bool) (v : Bool) → ((c : Cell) → one c ≡ v → other c ≡ v) → (cs : List Cell) → list_all one cs ≡ v → list_all other cs ≡ v
+all-alike :
+    (one other : Cell → Bool) (v : Bool) → ((c : Cell) → one c ≡ v → other c ≡ v) → (cs : List Cell) → list_all one cs ≡ v
+    → list_all other cs ≡ v
 all-alike one other v each [] h = h
-all-alike one other v each (c ∷ cs) h = and-alike v (one c) (list_all one cs) (other c) (list_all other cs) (each c) (all-alike one other v each cs) h
+all-alike one other v each (c ∷ cs) h =
+    and-alike v (one c) (list_all one cs) (other c) (list_all other cs) (each c) (all-alike one other v each cs) h
 
 -- where one test refutes another at each cell, so does some of the one all of the other
 any-against : (one other : Cell → Bool) (v : Bool) → ((c : Cell) → one c ≡ v → other c ≡ not v) → (cs : List Cell) → list_any one cs ≡ v
@@ -86,16 +90,20 @@ any-against one other v each (c ∷ cs) h =
     or-against v (one c) (list_any one cs) (other c) (list_all other cs) (each c) (any-against one other v each cs) h
 
 -- a pattern is false for good once a mark fails for good
-pub pattern_false : (p : Pattern) (m : Matrix) → list_any (fails p m) all_cells ≡ true → IsKnown (text_matches (pattern_text p)) m (Some false)
+pub pattern_false :
+    (p : Pattern) (m : Matrix) → list_any (fails p m) all_cells ≡ true → IsKnown (text_matches (pattern_text p)) m (Some false)
 pattern_false p m h =
     known_value (text_matches (pattern_text p)) m false
-    (λ later more. any-against (fails p m) (meets p later) true (λ c t. fails-later (mark_at p c) (dimension_at m c) (dimension_at later c) t (more c)) all_cells h)
+    (λ later more. any-against (fails p m) (meets p later) true
+    (λ c t. fails-later (mark_at p c) (dimension_at m c) (dimension_at later c) t (more c)) all_cells h)
 
 -- a pattern is true for good once all marks hold for good
-pub pattern_true : (p : Pattern) (m : Matrix) → list_all (holds p m) all_cells ≡ true → IsKnown (text_matches (pattern_text p)) m (Some true)
+pub pattern_true :
+    (p : Pattern) (m : Matrix) → list_all (holds p m) all_cells ≡ true → IsKnown (text_matches (pattern_text p)) m (Some true)
 pattern_true p m h =
     known_value (text_matches (pattern_text p)) m true
-    (λ later more. all-alike (holds p m) (meets p later) true (λ c t. holds-later (mark_at p c) (dimension_at m c) (dimension_at later c) t (more c)) all_cells h)
+    (λ later more. all-alike (holds p m) (meets p later) true
+    (λ c t. holds-later (mark_at p c) (dimension_at m c) (dimension_at later c) t (more c)) all_cells h)
 
 -- what a mark says of its cell where that is moved
 meets_moved : (f : Mark → Dim → Dim) (p : Pattern) (m : Matrix) (c : Cell) (v : Bool)

@@ -1,5 +1,6 @@
 -- The sections of the edges of areas round a point are all the sections there of the areas alone.
-use Rattle.std.proofs.Common.{◌≡◌, ◌⊎◌, inl, inr, ℕ, ◌+◌, ◌<◌, ◌≤◌, Bool, None, List, [], ◌++◌, length, get_or, ap, refl, sym, ◌∙◌, subst, arith}
+use Rattle.std.proofs.Common.{◌≡◌, ◌⊎◌, inl, inr, ℕ, ◌+◌, ◌<◌, ◌≤◌, Bool, None, List, [], ◌++◌, length, get_or, ap, refl, sym, ◌∙◌, subst}
+use Rattle.std.proofs.Common.{arith}
 use Rattle.std.specs.List.{All, Any}
 use Rattle.std.proofs.lemmas.Bool.{cases_lt}
 use Rattle.std.proofs.lemmas.List.Elements.{All-nil, All-append, All-same, All-weaker, at_from_Contains}
@@ -55,7 +56,9 @@ figure_place f place edge is = by_owner edge.owner refl (edge_of_owner (areas_al
     }
 
 -- its hand is the same
-area_hand : (f : Figure) (owner : Owner) (e : Seg) (side : _) → ¬ (area_of owner ≡ None) → HasHand f owner e side → HasHand (areas_alone f) owner e side
+area_hand :
+    (f : Figure) (owner : Owner) (e : Seg) (side : _) → ¬ (area_of owner ≡ None) → HasHand f owner e side
+    → HasHand (areas_alone f) owner e side
 area_hand f (Line k) e side of_area h = h
 area_hand f (Ring k r) e side of_area h = h
 
@@ -122,13 +125,15 @@ module _ (f : Figure) (p : Point) (rows : List Edge) (places : List ℕ) (k : �
             → Any (IsSectionToward A (areas_alone f) (owned_edge other) forward) new
         by_place i other h forward away (inl l) below =
             grown forward other
-            (any_left (IsSectionToward A (areas_alone f) (owned_edge other) forward) sections adds.more (before.whole i l other h forward away))
+            (any_left (IsSectionToward A (areas_alone f) (owned_edge other) forward) sections adds.more
+            (before.whole i l other h forward away))
         by_place i other h forward away (inr l) below =
             let at : i ≡ k = omega (arith, l, below) in
             let same : edge ≡ other = some_same (sym here.is ∙ subst (λ (j : ℕ). IsAtPlace rows (get_or places j 0) other) at h.is) in
             grown forward other
             (any_right (IsSectionToward A (areas_alone f) (owned_edge other) forward) sections adds.more
-            (subst (λ (e : Edge). ¬ IsSamePoint (point_of (far_end forward e.seg)) p → Any (IsSectionToward A (areas_alone f) (owned_edge e) forward) adds.more) same
+            (subst (λ (e : Edge). ¬ IsSamePoint (point_of (far_end forward e.seg)) p
+            → Any (IsSectionToward A (areas_alone f) (owned_edge e) forward) adds.more) same
             (added_whole A (areas_alone f) edge hand p adds.more adds.are forward) away))
 
 -- past the last place these are all
@@ -136,7 +141,8 @@ pub all_sections : (f : Figure) (p : Point) (rows : List Edge) (places : List �
     → (sections : List Section) → AreSectionsBefore f p rows places k sections → AreSectionsAt A (areas_alone f) p sections
 all_sections f p rows places near k past sections before = record {
   only =
-      All-weaker (IsSectionAt A (areas_alone f) p) (λ s. s.which ≡ A → IsSectionAt A (areas_alone f) p s) (λ s h which_is. h) sections before.only;
+      All-weaker (IsSectionAt A (areas_alone f) p) (λ s. s.which ≡ A → IsSectionAt A (areas_alone f) p s)
+      (λ s h which_is. h) sections before.only;
   whole = λ place edge is on forward away. go edge on forward away (figure_place f place edge is);
 }
   where

@@ -1,5 +1,6 @@
 -- The boxes of the shells of areas, as a pass over the areas collects them.
-use Rattle.std.proofs.Common.{◌≡◌, ◌⊎◌, inl, inr, ℕ, zero, suc, ◌+◌, List, [], ◌∷◌, ◌++◌, length, take, ap, refl, sym, ◌∙◌, subst, arith, length-append}
+use Rattle.std.proofs.Common.{◌≡◌, ◌⊎◌, inl, inr, ℕ, zero, suc, ◌+◌, List, [], ◌∷◌, ◌++◌, length, take, ap, refl, sym, ◌∙◌, subst, arith}
+use Rattle.std.proofs.Common.{length-append}
 use Rattle.std.proofs.lemmas.List.{take_more}
 use Rattle.std.proofs.lemmas.Option.{slice_get_within, get_or_from_slice_get}
 use Rattle.plane_exact.specs.declared.window.Window.{Window}
@@ -13,7 +14,8 @@ record IsLast {X : Type 0} (xs : List X) (x z : X) (place : ℕ) : Type 0 where
   here : place ≡ length xs
   same : x ≡ z
 
-before_or_last : {X : Type 0} (xs : List X) (x z : X) (place : ℕ) → IsAtPlace (xs ++ x ∷ []) place z → IsAtPlace xs place z ⊎ IsLast xs x z place
+before_or_last :
+    {X : Type 0} (xs : List X) (x z : X) (place : ℕ) → IsAtPlace (xs ++ x ∷ []) place z → IsAtPlace xs place z ⊎ IsLast xs x z place
 before_or_last [] x z zero at = inr (record { here = refl; same = some_same at })
 before_or_last [] x z (suc place) at = cc
 before_or_last (y ∷ xs) x z zero at = inl at
@@ -56,5 +58,6 @@ pub next_box :
     → IsAtPlace areas k area → IsShellBox area box → AreShellBoxes (take (k + 1) areas) (boxes ++ box ∷ [])
 next_box areas boxes k area box before at is =
     subst (λ xs. AreShellBoxes xs (boxes ++ box ∷ []))
-    (ap (λ z. take k areas ++ z ∷ []) (sym (get_or_from_slice_get areas k area area at)) ∙ sym (take_more areas k area (slice_get_within areas k area at)))
+    (ap (λ z. take k areas ++ z ∷ []) (sym (get_or_from_slice_get areas k area area at))
+    ∙ sym (take_more areas k area (slice_get_within areas k area at)))
     (box_more (take k areas) boxes area box before is)

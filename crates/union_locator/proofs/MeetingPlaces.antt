@@ -60,6 +60,7 @@ pub places_of_rows : (w : Window) (rows : List Edge) (places : List ℕ) → Are
     → ArePlacesIn w (owned_edges rows) places
 places_of_rows w rows places h = record {
   ascending = h.ascending;
-  meet = All-weaker (SegMeetsAtPlace w (segs_of rows)) (MeetsAtPlace w (owned_edges rows)) (λ place m. row_meets w rows place m) places h.meet;
+  meet =
+      All-weaker (SegMeetsAtPlace w (segs_of rows)) (MeetsAtPlace w (owned_edges rows)) (λ place m. row_meets w rows place m) places h.meet;
   whole = λ place m. h.whole place (seg_meets w rows place m);
 }

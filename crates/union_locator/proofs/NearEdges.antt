@@ -44,7 +44,8 @@ module _ (f : Figure) (p : Point) (rows : List Edge) (places : List ℕ) (near :
 
   -- and has two different ends within the limit
   pub proper_there : (place : ℕ) (row : Edge) → IsAtPlace rows place row → IsProper row.seg
-  proper_there place row is = all_at IsOwnedProper (edges_of_figure f) place (owned_edge row) (proper_figure f near.shaped) (edge_there place row is)
+  proper_there place row is =
+      all_at IsOwnedProper (edges_of_figure f) place (owned_edge row) (proper_figure f near.shaped) (edge_there place row is)
 
   -- an edge of the figure that holds the point has its place among those near the point
   pub near_edge : (place : ℕ) (edge : OwnedEdge) → IsAtPlace (edges_of_figure f) place edge → IsOnEdge edge.seg p → Contains places place

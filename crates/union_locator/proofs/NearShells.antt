@@ -111,7 +111,8 @@ pub near_areas : (f : Figure) (boxes : List Window) (p : Point) (places : List �
 near_areas f boxes p places shaped valid are found = record {
   ascending = found.ascending;
   within =
-      All-weaker (IsShellNearAt f.areas p) (λ place. place < length f.areas) (λ place n. slice_get_within f.areas place n.area n.area_is) places
+      All-weaker (IsShellNearAt f.areas p) (λ place. place < length f.areas)
+      (λ place n. slice_get_within f.areas place n.area n.area_is) places
       found.near;
   far = λ place area is none.
       let box = other_item f.areas boxes (sym are.count) place area is in
@@ -132,4 +133,5 @@ far_area {f} {own} same shaped valid {shells} are place {box} item p {window} ro
     let within = slice_get_within f.areas place area at_f in
     let count = are.count in
     let at_box : IsAtPlace shells place box = slice_get_read shells (length shells) place box refl (omega (arith, count, within)) item in
-    sym (outside_exterior f shaped valid place area at_f box (are.each place area box at_f at_box) p (apart_is_out p window box round apart))
+    sym (outside_exterior f shaped valid place area at_f box (are.each place area box at_f at_box) p
+    (apart_is_out p window box round apart))

@@ -1,5 +1,6 @@
 -- The least box of a ring's positions holds all that is on its edges or inside of it.
-use Rattle.std.proofs.Common.{◌≡◌, pos, negsuc, neg_ℤ, ◌+ℤ◌, ◌-ℤ◌, ◌*ℤ◌, ◌≤ℤ◌, ◌<ℤ◌, Bool, true, false, not, ◌&&◌, List, [], ◌∷◌, refl, sym, ◌∙◌, arith}
+use Rattle.std.proofs.Common.{◌≡◌, pos, negsuc, neg_ℤ, ◌+ℤ◌, ◌-ℤ◌, ◌*ℤ◌, ◌≤ℤ◌, ◌<ℤ◌, Bool, true, false, not, ◌&&◌, List, [], ◌∷◌, refl, sym}
+use Rattle.std.proofs.Common.{◌∙◌, arith}
 use Rattle.std.specs.Prelude.{Some}
 use Rattle.std.specs.List.{AllByRecursion}
 use Rattle.std.proofs.lemmas.Bool.{false≢true, or_from, or_left, or_right, false_from_ne_true}
@@ -18,7 +19,8 @@ use Rattle.plane_exact.specs.declared.window.Window.{Window}
 use Rattle.plane_exact.proofs.Laws.{in_window-mix}
 use Rattle.point_set.specs.Extents.{IsEnvelope}
 use Rattle.point_set.specs.Lines.{is_at, is_at_some}
-use Rattle.point_set.specs.Rings.{is_same_position, edge_before, edges_after, edges_of, is_on_edge, is_on_edges, is_low, crosses, crosses_from, differ, is_odd, is_inside}
+use Rattle.point_set.specs.Rings.{is_same_position, edge_before, edges_after, edges_of, is_on_edge, is_on_edges, is_low, crosses}
+use Rattle.point_set.specs.Rings.{crosses_from, differ, is_odd, is_inside}
 use Rattle.point_set.specs.Shape.{IsClosed}
 use Rattle.ring_laws.proofs.Parity.Ring.{inside_stays}
 use Rattle.side_laws.proofs.Edges.Places.{off_edge}
@@ -52,7 +54,8 @@ all_held box [] each = tt
 all_held box (q ∷ ring) each = (
   held box q
       (each (point_of q)
-      (or_left (is_at (point_of q) q) (is_at_some (point_of q) ring) ((Decides-is_same_point (point_of q) (point_of q)).1 (same_refl (point_of q))))),
+      (or_left (is_at (point_of q) q) (is_at_some (point_of q) ring)
+      ((Decides-is_same_point (point_of q) (point_of q)).1 (same_refl (point_of q))))),
   all_held box ring (λ p at. each p (or_right (is_at p q) (is_at_some p ring) at)),
 )
 

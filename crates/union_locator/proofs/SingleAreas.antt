@@ -26,7 +26,8 @@ not_inside : (areas : List Area) (p : Point) (loc : Loc) → ¬ (loc ≡ Interio
 not_inside areas p Interior n h = absurd (n refl)
 not_inside areas p Boundary n h = h.0
 not_inside areas p Exterior n h =
-    All-weaker (λ area. location area p ≡ Exterior) (λ area. ¬ (location area p ≡ Interior)) (λ area e i. let both = sym e ∙ i in cc) areas h
+    All-weaker (λ area. location area p ≡ Exterior) (λ area. ¬ (location area p ≡ Interior))
+    (λ area e i. let both = sym e ∙ i in cc) areas h
 
 -- a list has an item within its length
 pub some_item : {X : Type 0} (xs : List X) (k : ℕ) → k < length xs → (x : X) × (get_or xs k x ≡ x)
@@ -91,5 +92,6 @@ module _ (areas : List Area) (p : Point) (k : ℕ) (below : k < length areas) (h
 pub none_passed : (areas : List Area) (p : Point) → IsInAreas (take 0 areas) p Exterior
 none_passed areas p = All-nil (λ area. location area p ≡ Exterior)
 
-pub all_passed : (areas : List Area) (p : Point) (k : ℕ) (loc : Loc) → length areas ≤ k → IsInAreas (take k areas) p loc → IsInAreas areas p loc
+pub all_passed :
+    (areas : List Area) (p : Point) (k : ℕ) (loc : Loc) → length areas ≤ k → IsInAreas (take k areas) p loc → IsInAreas areas p loc
 all_passed areas p k loc past h = subst (λ (xs : List Area). IsInAreas xs p loc) (take_all k areas past) h

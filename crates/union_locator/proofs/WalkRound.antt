@@ -58,10 +58,12 @@ module _ (f : Figure) (p : Point) where
   single_areas shaped Boundary n h = absurd (n refl)
   single_areas shaped Exterior n h =
       list_any_none (λ area. is_not_exterior (location area p)) f.areas
-      (All-weaker (λ area. location area p ≡ Exterior) (λ area. is_not_exterior (location area p) ≡ false) (λ area e. ap is_not_exterior e) f.areas h)
+      (All-weaker (λ area. location area p ≡ Exterior) (λ area. is_not_exterior (location area p) ≡ false)
+      (λ area e. ap is_not_exterior e) f.areas h)
 
   -- ---- the walk
-  module _ (shaped : IsWellShaped f) (valid : IsValid f) (boundary : IsInAreas f.areas p Boundary) (sections : List Section) (rays : List Dir)
+  module _ (shaped : IsWellShaped f) (valid : IsValid f) (boundary : IsInAreas f.areas p Boundary) (sections : List Section)
+      (rays : List Dir)
       (at : AreSectionsAt A (areas_alone f) p sections) (of : AreRaysOf sections rays) (inside : Bool)
       (walk : AreHandsAlike A sections → AreSided A sections
       → IsTrue inside ↔ ((i : ℕ) → i < sectors_of rays → IsSectorInside A sections rays i)) where

@@ -1,5 +1,6 @@
 -- What is built along a tree's course agrees with the rules of its tokens, and in the end it is the figure of the tree.
-use Rattle.std.proofs.Common.{◌≡◌, ℕ, suc, zero, ◌+◌, ℤ, Bool, true, false, cond, nat_lt, Option, Some, None, Ok, Err, List, [], ◌∷◌, ◌++◌, map, refl, sym, subst}
+use Rattle.std.proofs.Common.{◌≡◌, ℕ, suc, zero, ◌+◌, ℤ, Bool, true, false, cond, nat_lt, Option, Some, None, Ok, Err, List, [], ◌∷◌, ◌++◌}
+use Rattle.std.proofs.Common.{map, refl, sym, subst}
 use Rattle.std.specs.List.{flat_map}
 use Rattle.std.proofs.lemmas.List.{append_assoc, append-nil}
 use Rattle.std.proofs.lemmas.List.Concat.{flat_map_single}
@@ -21,11 +22,19 @@ use Rattle.wkt_text.specs.declared.control.WktKind.TheVariants as kind
 use Rattle.wkt_text.specs.declared.build.Build.{Build}
 use Rattle.wkt_text.specs.Limits.{most_depth, most_positions}
 use Rattle.wkt_text.specs.Machine.{depth_role}
-use Rattle.wkt_text.specs.Grammar.{Ordinate, More, Position, Way, empty_way, along, empty_element, bare, bracketed, Surface, empty_surface, hollow, area, Many, empty_many, several, Simple, empty_point, point, line, polygon, points, lines, polygons, Writing, joined, apart, Geometry, simple, empty_collection, collection, Geometries, none, more, type_of_simple}
-use Rattle.wkt_text.specs.Figures.{coordinate_of, point_of_position, paths_of_way, points_of_element, regions_of_surface, items_of, parts_of, parts_of_all, area_of, figure_of}
-use Rattle.wkt_text.specs.Rules.{TokenRule, unruled, nested, ends_line, ends_ring, Slot, slot, numeral_fault, drop_fault, line_fault, ring_fault, fault_under, begun_with}
-use Rattle.wkt_text.specs.Spelling.{ordinate_token, further_then, more_then, position_then, others_then, along_then, gap_then, way_then, element_then, gaps_then, surface_then, many_then, simple_then, head_then, geometry_then, geometries_then, spelling}
-use Rattle.wkt_text.specs.Building.{◌>>=◌, numeral_value, unless, with_points, with_lines, with_areas, with_x, with_point, with_position, next_group, empty_figure, start_build, act}
+use Rattle.wkt_text.specs.Grammar.{Ordinate, More, Position, Way, empty_way, along, empty_element, bare, bracketed, Surface, empty_surface}
+use Rattle.wkt_text.specs.Grammar.{hollow, area, Many, empty_many, several, Simple, empty_point, point, line, polygon, points, lines}
+use Rattle.wkt_text.specs.Grammar.{polygons, Writing, joined, apart, Geometry, simple, empty_collection, collection, Geometries, none, more}
+use Rattle.wkt_text.specs.Grammar.{type_of_simple}
+use Rattle.wkt_text.specs.Figures.{coordinate_of, point_of_position, paths_of_way, points_of_element, regions_of_surface, items_of}
+use Rattle.wkt_text.specs.Figures.{parts_of, parts_of_all, area_of, figure_of}
+use Rattle.wkt_text.specs.Rules.{TokenRule, unruled, nested, ends_line, ends_ring, Slot, slot, numeral_fault, drop_fault, line_fault}
+use Rattle.wkt_text.specs.Rules.{ring_fault, fault_under, begun_with}
+use Rattle.wkt_text.specs.Spelling.{ordinate_token, further_then, more_then, position_then, others_then, along_then, gap_then, way_then}
+use Rattle.wkt_text.specs.Spelling.{element_then, gaps_then, surface_then, many_then, simple_then, head_then, geometry_then}
+use Rattle.wkt_text.specs.Spelling.{geometries_then, spelling}
+use Rattle.wkt_text.specs.Building.{◌>>=◌, numeral_value, unless, with_points, with_lines, with_areas, with_x, with_point, with_position}
+use Rattle.wkt_text.specs.Building.{next_group, empty_figure, start_build, act}
 use Rattle.wkt_text.proofs.Moves.{Move, move, course}
 use Rattle.wkt_text.proofs.Moves as moves
 use Rattle.wkt_text.proofs.Groups.{with_part, with_parts, with_parts-append, with_parts-lists, map-flat_map}

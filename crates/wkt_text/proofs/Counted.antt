@@ -11,7 +11,8 @@ use Rattle.wkt_text.specs.declared.build.Build.{Build}
 use Rattle.wkt_text.proofs.Moves.{Move, tokens_in}
 use Rattle.wkt_text.specs.Limits.{most_positions}
 use Rattle.wkt_text.specs.Rules.{drop_fault, ends_meet, line_fault, ring_fault}
-use Rattle.wkt_text.specs.Building.{IsCounted, begun, shells, act_by, start_build, with_x, with_point, with_position, with_line, with_shell, with_hole, with_area}
+use Rattle.wkt_text.specs.Building.{IsCounted, begun, shells, act_by, start_build, with_x, with_point, with_position, with_line, with_shell}
+use Rattle.wkt_text.specs.Building.{with_hole, with_area}
 use Rattle.wkt_text.proofs.Keeping.{Holds, AllTokens, holds_if, holds_value, holds_unless, ring_tests, kept_along}
 use Rattle.wkt_text.proofs.Courses.{builds}
 use Rattle.wkt_text.proofs.Groups.{last_push}

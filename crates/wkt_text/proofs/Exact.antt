@@ -1,5 +1,6 @@
 -- A text has one answer: white space alone, one reading, or one first fault.
-use Rattle.std.proofs.Common.{◌≡◌, ℕ, ◌+◌, ◌≤◌, Err, List, [], ◌∷◌, ◌++◌, ◌⊎◌, inl, inr, length, drop, refl, sym, ap, subst, ◌∙◌, arith, length-drop}
+use Rattle.std.proofs.Common.{◌≡◌, ℕ, ◌+◌, ◌≤◌, Err, List, [], ◌∷◌, ◌++◌, ◌⊎◌, inl, inr, length, drop, refl, sym, ap, subst, ◌∙◌, arith}
+use Rattle.std.proofs.Common.{length-drop}
 use Rattle.std.specs.List.{prefix_len}
 use Rattle.std.proofs.lemmas.List.{append-nil, drop_all}
 use Rattle.std.proofs.lemmas.Option.{some_pair_parts}
@@ -22,7 +23,8 @@ use Rattle.wkt_text.specs.Building.{act}
 use Rattle.wkt_text.specs.Grammar.{Writing, joined, apart, Geometry, simple, empty_collection, collection, type_of_simple}
 use Rattle.wkt_text.specs.Rules.{TokenRule, unruled, nested, Slot, slot, tokens_of}
 use Rattle.wkt_text.specs.Spelling.{simple_then, gap_then, geometry_then, geometries_then, head_then, spelling}
-use Rattle.wkt_text.specs.Faults.{Stands, Reads, IsRight, IsOnlyWhite, IsUnknownType, IsRagged, HasKind, breaks, unknown_type, ragged, syntax, FirstFault}
+use Rattle.wkt_text.specs.Faults.{Stands, Reads, IsRight, IsOnlyWhite, IsUnknownType, IsRagged, HasKind, breaks, unknown_type, ragged}
+use Rattle.wkt_text.specs.Faults.{syntax, FirstFault}
 use Rattle.wkt_text.specs.Results.{IsFirstFault, IsReadAs, IsFaultAt}
 use Rattle.wkt_text.proofs.Parses.{start, Run}
 use Rattle.wkt_text.proofs.Moves.{course}

@@ -1,5 +1,6 @@
 -- The first token that the reader doesn't take is the first faulty one, and of its kind.
-use Rattle.std.proofs.Common.{◌≡◌, ℕ, zero, suc, nat_lt, cond, Bool, true, false, Option, Some, None, option_map, Ok, List, [], ◌∷◌, ◌++◌, ◌⊎◌, inl, inr, refl, sym, ap, subst, ◌∙◌}
+use Rattle.std.proofs.Common.{◌≡◌, ℕ, zero, suc, nat_lt, cond, Bool, true, false, Option, Some, None, option_map, Ok, List, [], ◌∷◌, ◌++◌}
+use Rattle.std.proofs.Common.{◌⊎◌, inl, inr, refl, sym, ap, subst, ◌∙◌}
 use Rattle.std.proofs.lemmas.List.{append_assoc, same_from_push}
 use Rattle.std.proofs.lemmas.Option.{none-some, some_pair_parts}
 use Rattle.wkt_text.specs.declared.word.TypeWord.{TypeWord}
@@ -21,9 +22,12 @@ use Rattle.wkt_text.specs.declared.state.Control.{Control}
 use Rattle.wkt_text.specs.declared.control.WktKind.{WktKind}
 use Rattle.wkt_text.specs.declared.control.WktKind.TheVariants.{Syntax, UnknownType, Ragged}
 use Rattle.wkt_text.specs.declared.build.Build.{Build}
-use Rattle.wkt_text.specs.Machine.{Next, advance, advance_by, at_after, at_body, refused_kind, refused_by, step_ended, second_role, opened, depth_after, step_tagged, inner, to, bare, at_more, after_two, end_role, after_close_of, after_comma, outer}
+use Rattle.wkt_text.specs.Machine.{Next, advance, advance_by, at_after, at_body, refused_kind, refused_by, step_ended, second_role, opened}
+use Rattle.wkt_text.specs.Machine.{depth_after, step_tagged, inner, to, bare, at_more, after_two, end_role, after_close_of, after_comma}
+use Rattle.wkt_text.specs.Machine.{outer}
 use Rattle.wkt_text.proofs.Moves.{Move, move, tokens_in, course}
-use Rattle.wkt_text.proofs.Alike.{AreAlike, alike, alike_tokens, first_move, first_slot, split_slots, split_moves, third_of_role, third_of_rule}
+use Rattle.wkt_text.proofs.Alike.{AreAlike, alike, alike_tokens, first_move, first_slot, split_slots, split_moves, third_of_role}
+use Rattle.wkt_text.proofs.Alike.{third_of_rule}
 use Rattle.wkt_text.proofs.Agree.{Agrees, IsFigureOf, agrees}
 use Rattle.wkt_text.proofs.Splits.{Meets, goes, stops, built_kept, meets_fault, agrees_first, kept_parts}
 use Rattle.wkt_text.specs.Building.{act, start_build}
@@ -32,11 +36,13 @@ use Rattle.wkt_text.specs.Limits.{most_depth}
 use Rattle.wkt_text.specs.Grammar.{Geometry}
 use Rattle.wkt_text.specs.Rules.{TokenRule, demanded, further, Slot, slot, fault_under, begun_along, KeepRules}
 use Rattle.wkt_text.specs.Spelling.{spelling}
-use Rattle.wkt_text.specs.Faults.{IsRight, Continues, IsRefused, IsTypeExpected, IsOrdinateDemanded, IsWord, IsOrdinate, IsAfterThird, IsUnknownType, IsRagged, HasKind, breaks, unknown_type, ragged, syntax}
+use Rattle.wkt_text.specs.Faults.{IsRight, Continues, IsRefused, IsTypeExpected, IsOrdinateDemanded, IsWord, IsOrdinate, IsAfterThird}
+use Rattle.wkt_text.specs.Faults.{IsUnknownType, IsRagged, HasKind, breaks, unknown_type, ragged, syntax}
 use Rattle.wkt_text.proofs.Parses.{at, start, Run, Goes, run_spelled}
 use Rattle.wkt_text.proofs.Spells.{spelled_run}
 use Rattle.wkt_text.proofs.Ends.{ends}
-use Rattle.wkt_text.proofs.Courses.{goes_split, goes_join, goes_push, goes_same, Last, last_of, builds, builds_front, builds_push, Pushed, tokens_pushed, tokens_in-push, ok_err}
+use Rattle.wkt_text.proofs.Courses.{goes_split, goes_join, goes_push, goes_same, Last, last_of, builds, builds_front, builds_push, Pushed}
+use Rattle.wkt_text.proofs.Courses.{tokens_pushed, tokens_in-push, ok_err}
 
 -- The reader has taken these tokens: it is there, and has built that.
 pub record Taken (ts : List Token) (c : Control) (b : Build) : Type 0 where

@@ -7,9 +7,13 @@ use Rattle.wkt_text.specs.declared.word.Tag.TheVariants.{Plain, Z, M, Zm}
 use Rattle.wkt_text.specs.declared.token.Token.{Token}
 use Rattle.wkt_text.specs.declared.token.Token.TheVariants as token
 use Rattle.wkt_text.specs.declared.state.Role.{Role}
-use Rattle.wkt_text.specs.declared.state.Role.TheVariants.{Head, Mark, Group, X, PointY, WayY, Demanded, Further, EndLine, EndShell, EndHole, EndArea}
+use Rattle.wkt_text.specs.declared.state.Role.TheVariants.{Head, Mark, Group, X, PointY, WayY, Demanded, Further, EndLine, EndShell}
+use Rattle.wkt_text.specs.declared.state.Role.TheVariants.{EndHole, EndArea}
 use Rattle.wkt_text.specs.Machine.{depth_role}
-use Rattle.wkt_text.specs.Grammar.{Ordinate, More, Position, Way, empty_way, along, Element, empty_element, bare, bracketed, Surface, empty_surface, hollow, area, Many, empty_many, several, Simple, empty_point, point, line, polygon, points, lines, polygons, Writing, joined, apart, Geometry, simple, empty_collection, collection, Geometries, none, more, type_of_simple}
+use Rattle.wkt_text.specs.Grammar.{Ordinate, More, Position, Way, empty_way, along, Element, empty_element, bare, bracketed, Surface}
+use Rattle.wkt_text.specs.Grammar.{empty_surface, hollow, area, Many, empty_many, several, Simple, empty_point, point, line, polygon}
+use Rattle.wkt_text.specs.Grammar.{points, lines, polygons, Writing, joined, apart, Geometry, simple, empty_collection, collection}
+use Rattle.wkt_text.specs.Grammar.{Geometries, none, more, type_of_simple}
 use Rattle.wkt_text.specs.Spelling.{ordinate_token}
 
 -- A token with its role.

@@ -19,9 +19,14 @@ use Rattle.wkt_text.specs.declared.state.Step.{Step}
 use Rattle.wkt_text.specs.declared.state.Step.TheVariants.{Start, Tagged, Body, Item, First, Second, Two, Three, After, Full, Done}
 use Rattle.wkt_text.specs.declared.state.Control.{Control}
 use Rattle.wkt_text.specs.Machine.{advance, started, opened, second_role, end_role, step_ended, step_tagged, after_comma, after_close}
-use Rattle.wkt_text.specs.Grammar.{Ordinate, number, nan, More, Position, Way, empty_way, along, Element, empty_element, bare, bracketed, Surface, empty_surface, hollow, area, empty_many, several, Simple, empty_point, point, line, polygon, points, lines, polygons, Writing, joined, apart, Geometry, simple, empty_collection, collection, Geometries, none, more, type_of_simple, tag_of_writing}
+use Rattle.wkt_text.specs.Grammar.{Ordinate, number, nan, More, Position, Way, empty_way, along, Element, empty_element, bare, bracketed}
+use Rattle.wkt_text.specs.Grammar.{Surface, empty_surface, hollow, area, empty_many, several, Simple, empty_point, point, line, polygon}
+use Rattle.wkt_text.specs.Grammar.{points, lines, polygons, Writing, joined, apart, Geometry, simple, empty_collection, collection}
+use Rattle.wkt_text.specs.Grammar.{Geometries, none, more, type_of_simple, tag_of_writing}
 use Rattle.wkt_text.specs.Machine.{depth_role}
-use Rattle.wkt_text.proofs.Moves.{Move, move, ordinate_then, further_then, more_then, position_then, others_then, along_then, gap_then, way_then, element_then, gaps_then, surface_then, simple_then, geometry_then, geometries_then, head_then, course}
+use Rattle.wkt_text.proofs.Moves.{Move, move, ordinate_then, further_then, more_then, position_then, others_then, along_then, gap_then}
+use Rattle.wkt_text.proofs.Moves.{way_then, element_then, gaps_then, surface_then, simple_then, geometry_then, geometries_then, head_then}
+use Rattle.wkt_text.proofs.Moves.{course}
 use Rattle.wkt_text.proofs.Parses.{at, start, Run}
 
 after_done : After ≡ Done → ⊥

@@ -1,10 +1,12 @@
 -- What is said of a number, found from the front of its digits.
-use Rattle.std.proofs.Common.{◌≡◌, ℕ, ◌+◌, ◌-◌, ◌*◌, ◌^◌, ◌≤◌, Bool, true, false, cond, nat_lt, List, ◌++◌, inl, inr, Some, None, length, take, drop, refl, sym, ◌∙◌, ap, arith, length-append}
+use Rattle.std.proofs.Common.{◌≡◌, ℕ, ◌+◌, ◌-◌, ◌*◌, ◌^◌, ◌≤◌, Bool, true, false, cond, nat_lt, List, ◌++◌, inl, inr, Some, None, length}
+use Rattle.std.proofs.Common.{take, drop, refl, sym, ◌∙◌, ap, arith, length-append}
 use Rattle.std.proofs.lemmas.Bool.{cases_lt}
 use Rattle.std.proofs.lemmas.Bool.Decides.{nat_tests}
 use Rattle.std.specs.List.{list_all}
 use Rattle.std.specs.Char.{is_ascii_digit}
-use Rattle.text_laws.specs.Numbers.{from_digits, capped, is_zero, kept_value, up_of, down_of, unsigned, is_minus, mantissa, after_mantissa, whole_part, fraction_part, is_formed, exponent_size, is_exponent_minus}
+use Rattle.text_laws.specs.Numbers.{from_digits, capped, is_zero, kept_value, up_of, down_of, unsigned, is_minus, mantissa, after_mantissa}
+use Rattle.text_laws.specs.Numbers.{whole_part, fraction_part, is_formed, exponent_size, is_exponent_minus}
 use Rattle.plane_exact.specs.Limits.{limit}
 use Rattle.wkt_text.specs.declared.number.Numeral.TheVariants.{Fraction}
 use Rattle.wkt_text.specs.Limits.{most_bytes}

@@ -7,7 +7,9 @@ use Rattle.point_set.specs.declared.figure.Figure.{Figure}
 use Rattle.wkt_text.specs.declared.word.Tag.{Tag}
 use Rattle.wkt_text.specs.declared.number.Numeral.{Numeral}
 use Rattle.wkt_text.specs.declared.number.Numeral.TheVariants.{Whole}
-use Rattle.wkt_text.specs.Grammar.{Position, Way, empty_way, along, Element, empty_element, bare, bracketed, Surface, empty_surface, hollow, area, Many, empty_many, several, Simple, point, line, polygon, points, lines, polygons, tag_of_writing, Geometry, simple, empty_collection, collection, Geometries, none, more}
+use Rattle.wkt_text.specs.Grammar.{Position, Way, empty_way, along, Element, empty_element, bare, bracketed, Surface, empty_surface, hollow}
+use Rattle.wkt_text.specs.Grammar.{area, Many, empty_many, several, Simple, point, line, polygon, points, lines, polygons, tag_of_writing}
+use Rattle.wkt_text.specs.Grammar.{Geometry, simple, empty_collection, collection, Geometries, none, more}
 
 -- The coordinate that a number is. One without a whole value within the limit is given 0: the rules exclude it.
 abbrev pub coordinate_of : Numeral → ℤ

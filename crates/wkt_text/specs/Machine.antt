@@ -7,7 +7,8 @@ use Rattle.wkt_text.specs.declared.word.Tag.TheVariants.{Plain, Z, M, Zm}
 use Rattle.wkt_text.specs.declared.token.Token.{Token}
 use Rattle.wkt_text.specs.declared.token.Token.TheVariants as token
 use Rattle.wkt_text.specs.declared.state.Role.{Role}
-use Rattle.wkt_text.specs.declared.state.Role.TheVariants.{Head, Deep, Mark, Group, X, PointY, WayY, Demanded, Further, EndLine, EndShell, EndHole, EndArea}
+use Rattle.wkt_text.specs.declared.state.Role.TheVariants.{Head, Deep, Mark, Group, X, PointY, WayY, Demanded, Further, EndLine, EndShell}
+use Rattle.wkt_text.specs.declared.state.Role.TheVariants.{EndHole, EndArea}
 use Rattle.wkt_text.specs.declared.state.Rings.TheVariants.{Shell, Hole, Hollow}
 use Rattle.wkt_text.specs.declared.state.Membership.TheVariants.{Alone, Member}
 use Rattle.wkt_text.specs.declared.state.RingKind.TheVariants as ring

@@ -1,5 +1,6 @@
 -- The rules that tokens keep by themselves, by what they are in their geometry, and the fault of a token that breaks its rule.
-use Rattle.std.specs.Prelude.{◌≡◌, ◌+◌, ℕ, map, ◌-◌, Bool, true, nat_lt, if◌then◌else◌, Option, Some, None, List, [], ◌∷◌, length, slice_index_or, ◌&&◌}
+use Rattle.std.specs.Prelude.{◌≡◌, ◌+◌, ℕ, map, ◌-◌, Bool, true, nat_lt, if◌then◌else◌, Option, Some, None, List, [], ◌∷◌, length}
+use Rattle.std.specs.Prelude.{slice_index_or, ◌&&◌}
 use Rattle.std.specs.Ordering.{int_eq}
 use Rattle.plane_exact.specs.declared.point.Pt.{Pt}
 use Rattle.wkt_text.specs.declared.number.Numeral.{Numeral}
@@ -7,7 +8,8 @@ use Rattle.wkt_text.specs.declared.number.Numeral.TheVariants.{Long, Malformed, 
 use Rattle.wkt_text.specs.declared.token.Token.{Token}
 use Rattle.wkt_text.specs.declared.token.Token.TheVariants as token
 use Rattle.wkt_text.specs.declared.control.WktKind.{WktKind}
-use Rattle.wkt_text.specs.declared.control.WktKind.TheVariants.{Syntax, NotWhole, TooWide, LongNumber, RingOpen, RingShort, LineShort, Deep, TooMany}
+use Rattle.wkt_text.specs.declared.control.WktKind.TheVariants.{Syntax, NotWhole, TooWide, LongNumber, RingOpen, RingShort, LineShort, Deep}
+use Rattle.wkt_text.specs.declared.control.WktKind.TheVariants.{TooMany}
 use Rattle.wkt_text.specs.Limits.{most_depth, most_positions}
 
 -- The rule of a token: that of the word of a collection in so many others; of the first or the second ordinate of a position; of

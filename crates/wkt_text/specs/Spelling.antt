@@ -7,7 +7,10 @@ use Rattle.wkt_text.specs.declared.word.Tag.{Tag}
 use Rattle.wkt_text.specs.declared.word.Tag.TheVariants.{Plain, Z, M, Zm}
 use Rattle.wkt_text.specs.declared.token.Token.{Token}
 use Rattle.wkt_text.specs.declared.token.Token.TheVariants as token
-use Rattle.wkt_text.specs.Grammar.{Ordinate, number, nan, More, Position, Way, empty_way, along, Element, empty_element, bare, bracketed, Surface, empty_surface, hollow, area, Many, empty_many, several, Simple, empty_point, point, line, polygon, points, lines, polygons, Writing, joined, apart, Geometry, simple, empty_collection, collection, Geometries, none, more, type_of_simple}
+use Rattle.wkt_text.specs.Grammar.{Ordinate, number, nan, More, Position, Way, empty_way, along, Element, empty_element, bare, bracketed}
+use Rattle.wkt_text.specs.Grammar.{Surface, empty_surface, hollow, area, Many, empty_many, several, Simple, empty_point, point, line}
+use Rattle.wkt_text.specs.Grammar.{polygon, points, lines, polygons, Writing, joined, apart, Geometry, simple, empty_collection, collection}
+use Rattle.wkt_text.specs.Grammar.{Geometries, none, more, type_of_simple}
 use Rattle.wkt_text.specs.Figures.{point_of_position}
 use Rattle.wkt_text.specs.Rules.{TokenRule, unruled, nested, first, second, demanded, further, ends_line, ends_ring, Slot, slot}
 

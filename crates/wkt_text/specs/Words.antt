@@ -1,11 +1,13 @@
 -- Words: maximal runs of letters, read in any case.
-use Rattle.std.specs.Prelude.{ℕ, ◌+◌, Bool, true, slice_range, is_some, ◌||◌, ◌&&◌, ◌==◌, if◌then◌else◌, Option, Some, None, option_map, option_and_then, List, [], ◌∷◌, drop, take_while, codes}
+use Rattle.std.specs.Prelude.{ℕ, ◌+◌, Bool, true, slice_range, is_some, ◌||◌, ◌&&◌, ◌==◌, if◌then◌else◌, Option, Some, None, option_map}
+use Rattle.std.specs.Prelude.{option_and_then, List, [], ◌∷◌, drop, take_while, codes}
 use Rattle.std.specs.List.{prefix_len}
 use Rattle.std.specs.Char.{to_ascii_uppercase}
 use Rattle.wkt_text.specs.Bytes.{in_class, is_white}
 use Rattle.wkt_text.specs.declared.runs.Class.TheVariants.{White, Letter}
 use Rattle.wkt_text.specs.declared.word.TypeWord.{TypeWord}
-use Rattle.wkt_text.specs.declared.word.TypeWord.TheVariants.{Point, LineString, Polygon, MultiPoint, MultiLineString, MultiPolygon, GeometryCollection}
+use Rattle.wkt_text.specs.declared.word.TypeWord.TheVariants.{Point, LineString, Polygon, MultiPoint, MultiLineString, MultiPolygon}
+use Rattle.wkt_text.specs.declared.word.TypeWord.TheVariants.{GeometryCollection}
 use Rattle.wkt_text.specs.declared.word.Tag.{Tag}
 use Rattle.wkt_text.specs.declared.word.Tag.TheVariants.{Plain, Z, M, Zm}
 

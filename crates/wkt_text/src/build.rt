@@ -1,7 +1,8 @@
 ghost use Rattle.std.specs.Prelude.{◌≡◌, ◌<◌, ◌≤◌, IfOk, IfErr, length};
 ghost use Rattle.wkt_text.specs.Limits.{most_positions};
 ghost use Rattle.wkt_text.specs.Rules.{drop_fault, ends_meet, line_fault, ring_fault};
-ghost use Rattle.wkt_text.specs.Building.{place_value, StopsAt, IsWantFor, IsCounted, act, next_group, with_group, with_area, act_x, act_point, act_way, end_line, end_shell, end_hole, start_build};
+ghost use Rattle.wkt_text.specs.Building.{place_value, StopsAt, IsWantFor, IsCounted, act, next_group, with_group, with_area, act_x};
+ghost use Rattle.wkt_text.specs.Building.{act_point, act_way, end_line, end_shell, end_hole, start_build};
 
 use crate::control::WktKind;
 use crate::number::Numeral;

@@ -1,6 +1,8 @@
 ghost use Rattle.std.specs.Prelude.{◌≡◌, ◌≤◌, ◌⊎◌, IfSome};
 ghost use Rattle.wkt_text.specs.Limits.{most_depth};
-ghost use Rattle.wkt_text.specs.Machine.{opened, at_start, at_body, inner, after_gap, at_item, second_role, end_role, after_close, after_comma, at_after, more_role, at_more, after_two, at_tag, at_first, at_second, advance, refused_kind};
+ghost use Rattle.wkt_text.specs.Machine.{opened, at_start, at_body, inner, after_gap, at_item, second_role, end_role, after_close};
+ghost use Rattle.wkt_text.specs.Machine.{after_comma, at_after, more_role, at_more, after_two, at_tag, at_first, at_second, advance};
+ghost use Rattle.wkt_text.specs.Machine.{refused_kind};
 
 use crate::state::{Control, Membership, RingKind, Rings, Role, Site, Step};
 use crate::token::Token;

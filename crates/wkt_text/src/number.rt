@@ -3,7 +3,8 @@ ghost use Rattle.std.specs.List.{list_all, fold};
 ghost use Rattle.std.specs.Char.{is_ascii_digit};
 ghost use Rattle.wkt_text.specs.Limits.{most_bytes};
 ghost use Rattle.plane_exact.specs.Limits.{limit};
-ghost use Rattle.text_laws.specs.Numbers.{mantissa, after_mantissa, whole_part, fraction_part, unsigned, is_minus, is_zero, is_exponent, exponent_size, is_exponent_minus, up_of, down_of, read_on, capped, kept_value};
+ghost use Rattle.text_laws.specs.Numbers.{mantissa, after_mantissa, whole_part, fraction_part, unsigned, is_minus, is_zero, is_exponent};
+ghost use Rattle.text_laws.specs.Numbers.{exponent_size, is_exponent_minus, up_of, down_of, read_on, capped, kept_value};
 ghost use Rattle.wkt_text.specs.Numbers.{numeral_of, judged};
 
 use crate::runs::{Class, run_end};

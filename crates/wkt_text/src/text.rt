@@ -1,5 +1,6 @@
 ghost use Rattle.std.specs.Prelude.{◌≡◌, ◌&&◌};
-ghost use Rattle.wkt_text.specs.Words.{is_named as is_named_so, is_unread_curve as is_curve, is_unread_surface as is_surface, is_type_name, is_delimited_so, is_text as is_text_so};
+ghost use Rattle.wkt_text.specs.Words.{is_named as is_named_so, is_unread_curve as is_curve, is_unread_surface as is_surface, is_type_name};
+ghost use Rattle.wkt_text.specs.Words.{is_delimited_so, is_text as is_text_so};
 
 use crate::runs::{Class, run_end};
 use crate::word::{after_name, tag_of, type_of};

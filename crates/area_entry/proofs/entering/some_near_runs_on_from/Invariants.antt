@@ -11,5 +11,6 @@ use Rattle.area_entry.proofs.entering.some_near_runs_on_from.Given as goal
 
 abbrev pub invariant-loop-place : goal.invariant-loop-place
 invariant-loop-place l =
-    (area : Area) → IsClean area → AreRowsOf area l.rows → All (λ row. IsUnshared area row.seg) l.ring → (at : ℕ) → IsAtPlace l.rows at l.row
+    (area : Area) → IsClean area → AreRowsOf area l.rows → All (λ row. IsUnshared area row.seg) l.ring → (at : ℕ)
+    → IsAtPlace l.rows at l.row
     → NoneBefore (RunsOnAtPlace l.ring l.row.seg area l.part) l.places l.place-index

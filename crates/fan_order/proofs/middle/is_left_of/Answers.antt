@@ -7,4 +7,5 @@ pub overflow_sub-result : goal.overflow_sub-result
 overflow_sub-result c = fits w64 (bend_computes c.args.ray c.args.next c.requires.ray c.requires.next) refl
 
 pub returns : goal.returns
-returns c = record { left = less_test (literal (pos 0)) (stored w64 (bend_computes c.args.ray c.args.next c.requires.ray c.requires.next) refl) }
+returns c =
+    record { left = less_test (literal (pos 0)) (stored w64 (bend_computes c.args.ray c.args.next c.requires.ray c.requires.next) refl) }

@@ -13,4 +13,5 @@ returns-then-is_left_of-clause-within c =
 pub returns-clause-within : goal.returns-clause-within
 returns-clause-within c =
     let off : ¬ (pos 0 <ℤ bend_of (direction_of c.args.ray) (direction_of c.args.next)) = search rules in
-    quarter_is_within c.args.ray c.args.next c.quarter_left.result c.quarter_left.ensures.across c.quarter_left.ensures.above (not_<ℤ (pos 0) (bend_of (direction_of c.args.ray) (direction_of c.args.next)) off)
+    quarter_is_within c.args.ray c.args.next c.quarter_left.result c.quarter_left.ensures.across c.quarter_left.ensures.above
+    (not_<ℤ (pos 0) (bend_of (direction_of c.args.ray) (direction_of c.args.next)) off)

@@ -65,12 +65,15 @@ returns-clause-looks_b g c =
 
 pub returns-clause-points : goal.returns-clause-points
 returns-clause-points g c =
-    answer_of_points (far g (goal.at.returns-clause-points g c).After-take_in_near) c.in_ok-take_in_near.ensures.taken c.finish.ensures.value
+    answer_of_points
+    (far g (goal.at.returns-clause-points g c).After-take_in_near) c.in_ok-take_in_near.ensures.taken c.finish.ensures.value
 
 pub returns-clause-samples : goal.returns-clause-samples
 returns-clause-samples g c =
-    answer_of_samples (far g (goal.at.returns-clause-samples g c).After-take_in_near) c.in_ok-take_in_near.ensures.taken c.finish.ensures.value
+    answer_of_samples
+    (far g (goal.at.returns-clause-samples g c).After-take_in_near) c.in_ok-take_in_near.ensures.taken c.finish.ensures.value
 
 pub returns-clause-matrix : goal.returns-clause-matrix
 returns-clause-matrix g c =
-    answer_of_relate (far g (goal.at.returns-clause-matrix g c).After-take_in_near) c.in_ok-take_in_near.ensures.taken c.finish.ensures.value
+    answer_of_relate
+    (far g (goal.at.returns-clause-matrix g c).After-take_in_near) c.in_ok-take_in_near.ensures.taken c.finish.ensures.value

@@ -32,7 +32,8 @@ open_here g c =
 -- so one look more is a run over them and the next one
 run_next : (g : Over) (c : In-Some g) (mid : ℕ) {before after : ℕ} → after ≤ mid + 1
     → mid + length c.loop-alloc.table ≤ before + length c.args.table.now
-    → IsRunOf (g.A.Target.figure c.args.a.now) (g.B.Target.figure c.args.b.now) c.args.rule c.args.table.now c.args.progress.now before after
+    → IsRunOf (g.A.Target.figure c.args.a.now)
+    (g.B.Target.figure c.args.b.now) c.args.rule c.args.table.now c.args.progress.now before after
 run_next g c mid {before} {after} more few =
     let count = ap length c.in-Some.ensures.first in
     run_and_next (g.A.Target.figure c.args.a.now) (g.B.Target.figure c.args.b.now) c.are_valid.ensures.valid c.args.rule

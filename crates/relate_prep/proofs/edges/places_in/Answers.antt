@@ -12,9 +12,11 @@ returns-in-Some c =
     let w = c.args.w in
     let rows = c.args.rows.now in
     let out = c.query.new.out in
-    let is : c.in-Some.index.now.segs ≡ segs_of rows = subst (λ z. IfSome z (λ index. index.now.segs ≡ segs_of rows)) c.in-Some.is c.requires.index in
+    let is : c.in-Some.index.now.segs ≡ segs_of rows = subst
+    (λ z. IfSome z (λ index. index.now.segs ≡ segs_of rows)) c.in-Some.is c.requires.index in
     record {
       places =
-          IfOk-weaker c.query.result _ _ (λ _ found. places_of_rows w rows out (subst (λ (segs : List Seg). ArePlacesIn w segs out) is found))
+          IfOk-weaker c.query.result _ _
+          (λ _ found. places_of_rows w rows out (subst (λ (segs : List Seg). ArePlacesIn w segs out) is found))
           c.query.ensures.places;
     }

@@ -11,7 +11,8 @@ use Rattle.seg_cross.proofs.crossing.crossing.Goals as goal
 use Rattle.seg_cross.proofs.crossing.crossing.Goals.{After-from-2}
 
 pub overflow_add-from : goal.overflow_add-from
-overflow_add-from c = fits w128 (weights _ _ c.args.first c.args.second c.from.ensures c.from-2.ensures c.requires.first_size c.requires.second_size) refl
+overflow_add-from c =
+    fits w128 (weights _ _ c.args.first c.args.second c.from.ensures c.from-2.ensures c.requires.first_size c.requires.second_size) refl
 
 -- the mean of two coordinates under the weights is a fraction over their sum
 fraction :

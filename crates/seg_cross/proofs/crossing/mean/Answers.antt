@@ -5,7 +5,10 @@ use Rattle.plane_exact.specs.Limits.{limit, widest}
 use Rattle.seg_cross.proofs.Means.{widened}
 use Rattle.seg_cross.proofs.crossing.mean.Goals as goal
 
-whole : (c : goal.After-from-4) → Computes (wide (wide c.from.result *ℤ wide c.from-2.result) +ℤ wide (wide c.from-3.result *ℤ wide c.from-4.result)) (c.args.first *ℤ c.args.a +ℤ c.args.second *ℤ c.args.b) 18446691297201750000
+whole :
+    (c : goal.After-from-4)
+    → Computes (wide (wide c.from.result *ℤ wide c.from-2.result) +ℤ wide (wide c.from-3.result *ℤ wide c.from-4.result))
+    (c.args.first *ℤ c.args.a +ℤ c.args.second *ℤ c.args.b) 18446691297201750000
 whole c =
     let first = widened _ c.args.first widest c.from.ensures c.requires.first refl refl in
     let a = widened _ c.args.a limit c.from-2.ensures c.requires.a refl refl in

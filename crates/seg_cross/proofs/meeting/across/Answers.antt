@@ -3,7 +3,8 @@ use Rattle.std.proofs.lemmas.Int.{ints}
 use Rattle.whole_algebra.proofs.Laws.{linear}
 use Rattle.whole_algebra.proofs.Computed.{narrow}
 use Rattle.seg_cross.specs.Sides.{IsOneSide}
-use Rattle.seg_cross.proofs.Meetings.{plain_turn, minus_turn, not_one_side, as_turns, below_from_slanted, in_order, against_order, apart_by_first, crossing_ahead, crossing_back, of_a, of_b}
+use Rattle.seg_cross.proofs.Meetings.{plain_turn, minus_turn, not_one_side, as_turns, below_from_slanted, in_order, against_order}
+use Rattle.seg_cross.proofs.Meetings.{apart_by_first, crossing_ahead, crossing_back, of_a, of_b}
 use Rattle.seg_cross.proofs.meeting.across.Goals as goal
 use Rattle.seg_cross.proofs.meeting.across.Goals.{Then-first-second, Else-first-second}
 
@@ -14,7 +15,8 @@ ahead c =
     as_turns _ _ _ _ c.turn_of-first.ensures.turn c.turn_of-first.ensures.size c.turn_of-second.ensures.turn c.turn_of-second.ensures.size less
 
 apart : (c : Then-first-second) → ¬ IsOneSide (of_a c.args.s c.args.t) (of_b c.args.s c.args.t)
-apart c = not_one_side _ _ _ _ _ c.turn_of-first.ensures.turn c.turn_of-first.ensures.size c.turn_of-second.ensures.turn c.turn_of-second.ensures.size c.is_one_side.ensures.side c.if-is_one_side.false
+apart c =
+    not_one_side _ _ _ _ _ c.turn_of-first.ensures.turn c.turn_of-first.ensures.size c.turn_of-second.ensures.turn c.turn_of-second.ensures.size c.is_one_side.ensures.side c.if-is_one_side.false
 
 -- the same the other way round
 back : (c : Else-first-second) → of_b c.args.s c.args.t <ℤ of_a c.args.s c.args.t
@@ -25,7 +27,8 @@ back c =
     below_from_slanted c.args.s c.args.t c.requires.both_sides.slanted (subst₂ ◌≤ℤ◌ second.is first.is less)
 
 apart_back : (c : Else-first-second) → ¬ IsOneSide (of_a c.args.s c.args.t) (of_b c.args.s c.args.t)
-apart_back c = not_one_side _ _ _ _ _ c.turn_of-first.ensures.turn c.turn_of-first.ensures.size c.turn_of-second.ensures.turn c.turn_of-second.ensures.size c.is_one_side.ensures.side c.if-is_one_side.false
+apart_back c =
+    not_one_side _ _ _ _ _ c.turn_of-first.ensures.turn c.turn_of-first.ensures.size c.turn_of-second.ensures.turn c.turn_of-second.ensures.size c.is_one_side.ensures.side c.if-is_one_side.false
 
 pub crossing-requires-clause-first : goal.crossing-requires-clause-first
 crossing-requires-clause-first c =
@@ -54,7 +57,8 @@ crossing-requires-else-first-second-clause-some c =
     let first = plain_turn _ _ c.turn_of-first.ensures.turn c.turn_of-first.ensures.size in
     let less = back c in
     let some : pos 0 <ℤ (neg_ℤ (of_b c.args.s c.args.t) +ℤ of_a c.args.s c.args.t) = omega (arith, linear, less) in
-    subst₂ (λ (y z : ℤ). pos 0 <ℤ (y +ℤ z)) (sym (minus_turn _ _ c.turn_of-second.ensures.turn c.turn_of-second.ensures.size)) (sym first.is) some
+    subst₂ (λ (y z : ℤ). pos 0 <ℤ (y +ℤ z)) (sym (minus_turn _ _ c.turn_of-second.ensures.turn c.turn_of-second.ensures.size))
+    (sym first.is) some
 
 pub returns-then-is_one_side-clause-exact : goal.returns-then-is_one_side-clause-exact
 returns-then-is_one_side-clause-exact c =

@@ -7,7 +7,10 @@ use Rattle.seg_cross.proofs.meeting.meet.Goals as goal
 
 pub returns-then-not-meets-clause-exact : goal.returns-then-not-meets-clause-exact
 returns-then-not-meets-clause-exact c = λ p both.
-    false≢true (sym c.if-not-meets.true ∙ c.meets.ensures.common.1 (record { point = p; here = c.of.ensures.least.holds p both.first; there = c.of-2.ensures.least.holds p both.second }))
+    false≢true
+    (sym c.if-not-meets.true
+    ∙ c.meets.ensures.common.1
+    (record { point = p; here = c.of.ensures.least.holds p both.first; there = c.of-2.ensures.least.holds p both.second }))
 
 pub overlap-requires-clause-line : goal.overlap-requires-clause-line
 overlap-requires-clause-line c =
@@ -15,7 +18,8 @@ overlap-requires-clause-line c =
     let eb = plain_turn _ _ c.turn_of-from_b.ensures.turn c.turn_of-from_b.ensures.size in
     let one : c.turn_of-from_a.result ≡ c.turn_of-from_b.result = omega (arith, ints) in
     let same = sym c.turn_of-from_a.ensures.turn ∙ one ∙ c.turn_of-from_b.ensures.turn in
-    let none = both_zero _ _ (λ h. false≢true (sym c.if-is_one_side.false ∙ c.is_one_side.ensures.side.1 (subst₂ IsOneSide (sym ea.is) (sym eb.is) h))) same in
+    let none = both_zero _ _
+    (λ h. false≢true (sym c.if-is_one_side.false ∙ c.is_one_side.ensures.side.1 (subst₂ IsOneSide (sym ea.is) (sym eb.is) h))) same in
     record { first = none; second = sym same ∙ none }
 
 pub across-requires-clause-both_sides : goal.across-requires-clause-both_sides

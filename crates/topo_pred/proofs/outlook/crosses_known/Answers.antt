@@ -4,7 +4,11 @@ use Rattle.topo_pred.proofs.outlook.crosses_known.Goals.{in_default-via-in-One+i
 use Rattle.topo_pred.proofs.outlook.crosses_known.Goals as goal
 
 pub returns-in-One-One : goal.returns-in-One-One
-returns-in-One-One c = record { known = rw (c.then_some.ensures, c.meet_in_a_line.ensures.line, c.in-One-One.is-0, c.in-One-One.is-1) (crosses_lines-known c.args.m.now) }
+returns-in-One-One c =
+    record {
+      known = rw (c.then_some.ensures, c.meet_in_a_line.ensures.line, c.in-One-One.is-0, c.in-One-One.is-1)
+          (crosses_lines-known c.args.m.now);
+    }
 
 pub returns-in_default : goal.returns-in_default
 returns-in_default c = record {

@@ -43,7 +43,12 @@ loop-place-preserved g c =
     let passed = c.loop-place.invariant.passed in
     record {
       figure = c.in_ok-loc.ensures.figure ∙ c.loop-place.invariant.figure;
-      outside = elim c.match-branch-2.branch [ in-Boundary w ↦ λ e. (let both = sym w.loc-is ∙ e in cc) | in-Exterior w ↦ λ e. outside (sym w.loc-is ∙ e) ];
+      outside =
+          elim c.match-branch-2.branch [
+            | in-Boundary w ↦ λ e. (let both = sym w.loc-is ∙ e in cc)
+            | in-Exterior w ↦ λ e. outside
+                (sym w.loc-is ∙ e)
+          ];
       passed = elim c.match-branch-2.branch [
         | in-Boundary w ↦ boundary_here f.areas p k below here own old outside passed w.in-Boundary.is w.loc-is
         | in-Exterior w ↦ outside_here f.areas p k below here own old passed w.in-Exterior.is w.loc-is
@@ -53,5 +58,6 @@ loop-place-preserved g c =
 pub returns-clause-location : goal.returns-clause-location
 returns-clause-location g c =
     let count = c.len-place-end.ensures.length in
-    all_passed c.args.figure.now.areas (point_at c.args.n.now) c.loop-place.place c.loop-place.loc (omega (arith, count, c.loop-place-test.false))
+    all_passed c.args.figure.now.areas (point_at c.args.n.now) c.loop-place.place c.loop-place.loc
+    (omega (arith, count, c.loop-place-test.false))
     c.loop-place.invariant.passed

@@ -14,7 +14,8 @@ below_count g c = let count = ap length c.as_slice-place-items.ensures.items in 
 
 -- and what was found is where the node lies in the area there
 found_there : (g : Over) (c : In_ok-loc g)
-    → IsInAreaAt (g.L.AreaLocs.figure c.args.areas.now) (get_or c.args.places.now c.loop-place.place-index 0) (point_at c.args.n.now) c.in_ok-loc.field-0
+    → IsInAreaAt (g.L.AreaLocs.figure c.args.areas.now) (get_or c.args.places.now c.loop-place.place-index 0)
+    (point_at c.args.n.now) c.in_ok-loc.field-0
 found_there g c =
     subst₂ (λ (z : Figure) (xs : List ℕ). IsInAreaAt z (get_or xs c.loop-place.place-index 0) (point_at c.args.n.now) c.in_ok-loc.field-0)
     (c.in_ok-loc.ensures.figure ∙ c.loop-place.invariant.figure) c.as_slice-place-items.ensures.items c.in_ok-loc.ensures.location

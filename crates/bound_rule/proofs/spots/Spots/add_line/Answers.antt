@@ -12,5 +12,6 @@ returns-in_ok-add c = record {
 pub returns-in_default : goal.returns-in_default
 returns-in_default c = record {
   added = λ p.
-      sym (ap (λ (b : Bool). is_at_some p c.args.self.now || b) (c.in_default.ensures.position p) ∙ or-false (is_at_some p c.args.self.now));
+      sym (ap (λ (b : Bool). is_at_some p c.args.self.now || b) (c.in_default.ensures.position p)
+      ∙ or-false (is_at_some p c.args.self.now));
 }

@@ -16,5 +16,6 @@ pub returns : goal.returns
 returns c =
     let same = c.as_slice-point-items.ensures.items in
     record {
-      spots = all_points c.args.points.now c.loop-point.point-index c.loop-point.spots (omega (arith, ap length same)) c.loop-point.invariant;
+      spots =
+          all_points c.args.points.now c.loop-point.point-index c.loop-point.spots (omega (arith, ap length same)) c.loop-point.invariant;
     }

@@ -26,7 +26,8 @@ loop-place-preserved c =
       | in-Some+in_ok-add_sections w ↦
           subst (λ (xs : List Section). AreSectionsBefore f p rows s.places.now (k + 1) xs) (sym w.sections-is)
           (sections_more f p rows s.places.now k c.loop-place.sections c.loop-place.invariant c.requires.near w.in-Some.edge
-          (subst (λ (places : List ℕ). IsAreaEdgeAt rows (get_or places k 0) p w.in-Some.edge) items w.in-Some.ensures.edge) w.add_sections.new.out
+          (subst (λ (places : List ℕ). IsAreaEdgeAt rows
+          (get_or places k 0) p w.in-Some.edge) items w.in-Some.ensures.edge) w.add_sections.new.out
           w.in_ok-add_sections.ensures.sections w.in_ok-add_sections.ensures.short)
       | in_default w ↦
           subst (λ (xs : List Section). AreSectionsBefore f p rows s.places.now (k + 1) xs) (sym w.sections-is)

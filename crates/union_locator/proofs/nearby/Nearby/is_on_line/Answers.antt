@@ -26,5 +26,6 @@ returns c =
     record {
       line = sym
           (off_lines s.figure.now (point_at s.node.now) s.rows.now s.places.now c.requires.near c.loop-place.place-index
-          (let same = ap length c.as_slice-place-items.ensures.items in omega (arith, same, c.loop-place-test.false)) c.loop-place.invariant);
+          (let same = ap length c.as_slice-place-items.ensures.items in omega
+          (arith, same, c.loop-place-test.false)) c.loop-place.invariant);
     }

@@ -20,7 +20,8 @@ walk c =
     let same = sym c.in_ok-fan.ensures.sections in
     walked f p near.shaped near.valid c.requires.boundary fan.sections fan.rays
     (subst (λ (xs : List Section). AreSectionsAt A (areas_alone f) p xs) same c.in_ok-sections.ensures.sections)
-    (subst (λ (xs : List Section). AreRaysOf xs fan.rays) same c.in_ok-fan.ensures.rays) c.are_all_inside.result c.are_all_inside.ensures.all
+    (subst (λ
+    (xs : List Section). AreRaysOf xs fan.rays) same c.in_ok-fan.ensures.rays) c.are_all_inside.result c.are_all_inside.ensures.all
 
 pub returns-then-are_all_inside : goal.returns-then-are_all_inside
 returns-then-are_all_inside c =
