@@ -4,9 +4,7 @@ ghost use Rattle.union_locator.specs.Shells.{AreBoxesNear, AreShellBoxes, IsShel
 
 use edge_index::EdgeIndex;
 use figure_extent::of_way;
-use plane_exact::{
-    BoxList, ItemList, NoMemory, Node, PlaceList, Pt, Seg, SegList, Window, diagonals_of,
-};
+use plane_exact::{BoxList, NoMemory, Node, PlaceList, Window, diagonals_of};
 use point_set::{Area, Figure};
 use std::alloc::Global;
 use std::marker::Model;
