@@ -186,7 +186,8 @@ after_misses false p a b edges e =
     (ap (λ z. z || is_on_edges p edges) k.0, ap (λ z. differ z (is_odd p edges)) k.1)
 
 -- ---- along the ring
--- of the positions from `first` on, those behind `last` are left: no edge so far holds p, and `odd` tells whether the ray crosses an odd number of them
+-- of the positions from `first` on, those behind `last` are left: no edge so far holds p, and `odd` tells whether the ray crosses an
+-- odd number of them
 pub record IsSoFar (p : Point) (first : Pt) (others : List Pt) (last : Pt) (rest : List Pt) (odd : Bool) : Type 0 where
   pub on : is_on_edges p (edges_after first others) ≡ is_on_edges p (edges_after last rest)
   pub odd_is : is_odd p (edges_after first others) ≡ differ odd (is_odd p (edges_after last rest))

@@ -13,7 +13,8 @@ use Rattle.plane_exact.specs.declared.point.Seg.{Seg}
 use Rattle.plane_exact.specs.declared.window.Window.{Window}
 use Rattle.plane_exact.proofs.Laws.{least_of_ends}
 use Rattle.edge_index.specs.declared.boxes.BoxRow.{BoxRow}
-use Rattle.edge_index.specs.Rows.{window_of, joined, no_segment, leaf_window, window_at, item_at, row_at, rows_of, AreAllPlaces, IsIndex}
+use Rattle.plane_exact.specs.Windows.{join_boxes}
+use Rattle.edge_index.specs.Rows.{window_of, no_segment, leaf_window, window_at, item_at, row_at, rows_of, AreAllPlaces, IsIndex}
 use Rattle.edge_index.specs.Segments.{IsWindowOf, IsLeafOf, SomeLeaf, AreLeavesOf}
 use Rattle.edge_index.specs.Trees.{IsInEither, IsRowAt, IsTreeOf, IsBoxTree, inner_count}
 use Rattle.edge_index.proofs.Indexes.{window_kept, window_joined, window_leaf}
@@ -63,13 +64,13 @@ module _ (segs : List Seg) (leaves : List ℕ) (inner : List Window) (index : Is
   -- an inner row's window is joined from those of its children
   window_children :
       (place : ℕ) → place + 1 < length leaves
-      → window_at segs leaves inner place ≡ joined (window_at segs leaves inner (2 * place + 1))
+      → window_at segs leaves inner place ≡ join_boxes (window_at segs leaves inner (2 * place + 1))
       (window_at segs leaves inner (2 * place + 2))
   window_children place below = by_side (cases_lt place (length inner))
     where
       by_side :
           (place < length inner) ⊎ (length inner ≤ place)
-          → window_at segs leaves inner place ≡ joined (window_at segs leaves inner (2 * place + 1))
+          → window_at segs leaves inner place ≡ join_boxes (window_at segs leaves inner (2 * place + 1))
           (window_at segs leaves inner (2 * place + 2))
       by_side (inl kept) = window_kept segs leaves inner place kept ∙ index.boxes.each place kept
       by_side (inr past) =
@@ -80,7 +81,7 @@ module _ (segs : List Seg) (leaves : List ℕ) (inner : List Window) (index : Is
           ∙ sym (window_leaf segs leaves inner (2 * place + 1) (omega arith) (omega (arith, count))) in
           let right = ap (leaf_window segs leaves) second
           ∙ sym (window_leaf segs leaves inner (2 * place + 2) (omega arith) (omega (arith, count))) in
-          window_joined segs leaves inner place past below ∙ ap₂ joined left right
+          window_joined segs leaves inner place past below ∙ ap₂ join_boxes left right
 
   -- each window is proper
   proper_at :
@@ -123,7 +124,7 @@ module _ (segs : List Seg) (leaves : List ℕ) (inner : List Window) (index : Is
       let outer = ap window (row_is place row here).1 ∙ window_children place (omega arith) in
       let least = least_joined one other (proper_row (2 * place + 1) (omega arith)) (proper_row (2 * place + 2) (omega arith)) in
       subst (λ (box : Window). IsLeastWindow (IsInEither left.window right.window) box) (sym outer)
-      (subst₂ (λ (l r : Window). IsLeastWindow (IsInEither l r) (joined one other)) (sym (ap window (row_is (2 * place + 1) left first).1))
+      (subst₂ (λ (l r : Window). IsLeastWindow (IsInEither l r) (join_boxes one other)) (sym (ap window (row_is (2 * place + 1) left first).1))
       (sym (ap window (row_is (2 * place + 2) right second).1)) least)
 
   -- the item of a leaf's row is that of the leaf, below the number of segments

@@ -9,14 +9,14 @@ use Rattle.plane_exact.specs.declared.window.Window.{Window}
 use Rattle.edge_index.specs.declared.boxes.BoxRow.{BoxRow}
 use Rattle.edge_index.specs.Segments.{IsWindowOf, MeetsAtPlace, ArePlacesIn, AreLeavesOf}
 use Rattle.edge_index.specs.Trees.{IsItemIn, AreItemsIn}
-use Rattle.edge_index.proofs.LeastBoxes.{within_holds}
+use Rattle.plane_exact.proofs.Laws.{within_holds}
 
 -- the windows of a segment meet what one of them meets
 window_meets :
     (w : Window) (seg : Seg) (box other : Window) → IsWindowOf seg box → IsWindowOf seg other → HasCommonPoint box w
     → HasCommonPoint other w
 window_meets w seg box other least least' h =
-    record { point = h.point; here = within_holds box other h.point (least.least other least'.holds) h.here; there = h.there }
+    record { point = h.point; here = within_holds (least.least other least'.holds) h.point h.here; there = h.there }
 
 -- an item of a leaf that meets is the place of a segment that does
 item_meets :

@@ -1,9 +1,10 @@
 -- The rows of an index, from what it keeps: its segments, the places of its segments in the order of its leaves, and the windows
 -- of those inner rows that have an inner child. What the other rows have follows from the segments.
-use Rattle.std.specs.Prelude.{◌≡◌, ℕ, ◌+◌, ◌-◌, ◌*◌, ◌/◌, ◌<◌, ◌≤◌, pos, nat_lt, if◌then◌else◌, List, length, map, slice_index}
+use Rattle.std.specs.Prelude.{◌≡◌, ℕ, ◌+◌, ◌-◌, ◌*◌, ◌/◌, ◌<◌, ◌≤◌, pos, nat_lt, List, length, map, slice_index}
 use Rattle.std.specs.Prelude.{slice_index_or, IsPermutation}
 use Rattle.std.specs.Int.{int_max, int_min}
 use Rattle.std.specs.List.{range_with_len}
+use Rattle.plane_exact.specs.Windows.{join_boxes}
 use Rattle.plane_exact.specs.declared.point.Seg.{Seg}
 use Rattle.plane_exact.specs.declared.window.Window.{Window}
 use Rattle.edge_index.specs.declared.boxes.BoxRow.{BoxRow}
@@ -11,12 +12,12 @@ use Rattle.edge_index.specs.declared.boxes.BoxRow.{BoxRow}
 -- The box of the lesser and the greater coordinates of a segment's ends.
 abbrev pub window_of : Seg → Window
 window_of seg =
-    record { low_x = int_min seg.a.x seg.b.x; low_y = int_min seg.a.y seg.b.y; high_x = int_max seg.a.x seg.b.x; high_y = int_max seg.a.y seg.b.y }
-
--- The box of the lesser low sides and the greater high sides of two boxes.
-abbrev pub joined : Window → Window → Window
-joined box other =
-    record { low_x = int_min box.low_x other.low_x; low_y = int_min box.low_y other.low_y; high_x = int_max box.high_x other.high_x; high_y = int_max box.high_y other.high_y }
+    record {
+      low_x = int_min seg.a.x seg.b.x;
+      low_y = int_min seg.a.y seg.b.y;
+      high_x = int_max seg.a.x seg.b.x;
+      high_y = int_max seg.a.y seg.b.y;
+    }
 
 -- The segment from the origin to itself, and its window, stand where a list is read past its end.
 abbrev pub no_segment : Seg
@@ -34,7 +35,7 @@ abbrev pub window_at : List Seg → List ℕ → List Window → ℕ → Window
 window_at segs leaves inner place =
     if nat_lt place (length inner) then slice_index_or inner place no_window
     else (if nat_lt (place + 1) (length leaves)
-    then joined (leaf_window segs leaves (2 * place + 2 - length leaves)) (leaf_window segs leaves (2 * place + 3 - length leaves))
+    then join_boxes (leaf_window segs leaves (2 * place + 2 - length leaves)) (leaf_window segs leaves (2 * place + 3 - length leaves))
     else leaf_window segs leaves (place + 1 - length leaves))
 
 -- The item of the row at a place: that of its leaf, and 0 for an inner row.
@@ -57,7 +58,7 @@ pub record AreJoined (segs : List Seg) (leaves : List ℕ) (inner : List Window)
   pub count : length inner ≡ (length leaves - 1) / 2
   pub each :
       (place : ℕ) → place < length inner
-      → slice_index_or inner place no_window ≡ joined (window_at segs leaves inner (2 * place + 1))
+      → slice_index_or inner place no_window ≡ join_boxes (window_at segs leaves inner (2 * place + 1))
       (window_at segs leaves inner (2 * place + 2))
 
 -- What each index keeps.

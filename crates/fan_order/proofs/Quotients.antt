@@ -118,6 +118,11 @@ pub record Parts (x y : ℤ) (a b g : ℕ) : Type 0 where
   pub b_is : b ≡ unsigned_abs (narrow y)
   pub gcd : IsGcd a b g
 
+-- they are what the code computes
+pub parts_of : {x y : ℤ} {a b g : ℕ} → IsWay x y → a ≡ unsigned_abs (narrow x) → b ≡ unsigned_abs (narrow y) → IsGcd a b g
+    → Parts x y a b g
+parts_of way a_is b_is gcd = record { way = way; a_is = a_is; b_is = b_is; gcd = gcd }
+
 module _ {x y : ℤ} {a b g : ℕ} (p : Parts x y a b g) where
   pub gcd_of : IsGcd (unsigned_abs x) (unsigned_abs y) g
   gcd_of =

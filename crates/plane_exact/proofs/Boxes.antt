@@ -1,7 +1,8 @@
 -- Boxes: what they hold, and their common points.
 use Rattle.std.proofs.Common.{negsuc, ◌-ℤ◌, ◌<ℤ◌, ◌≡◌, ℤ, pos, ◌+ℤ◌, ◌*ℤ◌, ◌≤ℤ◌, [], ◌∷◌, refl, ap, arith}
 use Rattle.whole_algebra.proofs.Certificates.{at_most_by, at_most, same, scaled, positive, ◌⊞◌, ◌⊠◌}
-use Rattle.whole_algebra.proofs.Signs.{cancel_<ℤ_right, ≤ℤ-<ℤ_trans, scale_≤ℤ, cancel_≤ℤ, cancel_≤ℤ_right, ≤ℤ_trans}
+use Rattle.whole_algebra.proofs.Signs.{cancel_<ℤ_right, ≤ℤ-<ℤ_trans, scale_≤ℤ, scale_≤ℤ_right, cancel_≤ℤ, cancel_≤ℤ_right, ≤ℤ_trans}
+use Rattle.whole_algebra.proofs.Signs.{<ℤ_weaken}
 use lib.Signed.{<ℤ-≤ℤ_trans}
 use Rattle.plane_exact.specs.Nodes.{IsRange}
 use Rattle.plane_laws.specs.Plane.{IsSamePoint, Point, IsOnSegment}
@@ -12,7 +13,7 @@ use Rattle.whole_algebra.proofs.Laws.{linear}
 use Rattle.whole_algebra.proofs.Polynomials.{var, num, ◌⊕◌, ◌⊗◌, identity}
 use Rattle.plane_laws.proofs.Segments.Mixes.{start_on_segment, end_on_segment}
 use Rattle.plane_exact.specs.Places.{point_of}
-use Rattle.plane_exact.specs.Windows.{IsInWindow, IsWithin, HasCommonPoint, IsLeastWindow, low_corner, high_corner}
+use Rattle.plane_exact.specs.Windows.{IsInWindow, IsWithin, HasCommonPoint, IsLeastWindow, join_boxes, low_corner, high_corner}
 use Rattle.plane_exact.specs.declared.point.Pt.{Pt}
 use Rattle.plane_exact.specs.declared.window.Window.{Window}
 
@@ -166,3 +167,31 @@ diagonal_window box other common =
     let sides = low_at_most_high box other common in
     least_of_ends box (low_corner box) (high_corner box) (omega (arith, ints, clamps, sides.0)) (omega (arith, ints, clamps, sides.1))
     (omega (arith, ints, clamps, sides.0)) (omega (arith, ints, clamps, sides.1))
+
+-- ---- boxes within boxes
+-- a box that is within another holds no more than it
+pub within_holds : {inner outer : Window} → IsWithin inner outer → (p : Point) → IsInWindow inner p → IsInWindow outer p
+within_holds h p k = record {
+  left = ≤ℤ_trans (scale_≤ℤ_right (<ℤ_weaken p.heavy) h.left) k.left;
+  right = ≤ℤ_trans k.right (scale_≤ℤ_right (<ℤ_weaken p.heavy) h.right);
+  bottom = ≤ℤ_trans (scale_≤ℤ_right (<ℤ_weaken p.heavy) h.bottom) k.bottom;
+  top = ≤ℤ_trans k.top (scale_≤ℤ_right (<ℤ_weaken p.heavy) h.top);
+}
+
+-- a box is within the least one that holds it and another
+pub join_holds_first : (box other : Window) → IsWithin box (join_boxes box other)
+join_holds_first box other = record {
+  left = omega (arith, ints, clamps);
+  right = omega (arith, ints, clamps);
+  bottom = omega (arith, ints, clamps);
+  top = omega (arith, ints, clamps);
+}
+
+-- and so is the other
+pub join_holds_second : (box other : Window) → IsWithin other (join_boxes box other)
+join_holds_second box other = record {
+  left = omega (arith, ints, clamps);
+  right = omega (arith, ints, clamps);
+  bottom = omega (arith, ints, clamps);
+  top = omega (arith, ints, clamps);
+}

@@ -57,7 +57,20 @@ at_both :
 at_both a b p ex ey lx hx ly hy =
     let one_x = between a.x b.x p.x p.w p.heavy (omega (arith, linear, ex)) lx hx in
     let one_y = between a.y b.y p.y p.w p.heavy (omega (arith, linear, ey)) ly hy in
-    record { s = p.w; t = pos 0; mix = record { first = <ℤ_weaken p.heavy; second = record { le = tt }; times = pos 1; some = record { lt = tt }; across = whole p.x a.x b.x p.w (omega (arith, linear, one_x.0, one_x.1, ap (λ (z : ℤ). z *ℤ p.w) ex)); above = whole p.y a.y b.y p.w (omega (arith, linear, one_y.0, one_y.1, ap (λ (z : ℤ). z *ℤ p.w) ey)); mass = whole p.w (pos 1) (pos 1) p.w (sym (one-*ℤ p.w)) } }
+    record {
+      s = p.w;
+      t = pos 0;
+      mix = record {
+        first = <ℤ_weaken p.heavy;
+        second = record { le = tt };
+        times = pos 1;
+        some = record { lt = tt };
+        across = whole p.x a.x b.x p.w (omega (arith, linear, one_x.0, one_x.1, ap (λ (z : ℤ). z *ℤ p.w) ex));
+        above = whole p.y a.y b.y p.w
+            (omega (arith, linear, one_y.0, one_y.1, ap (λ (z : ℤ). z *ℤ p.w) ey));
+        mass = whole p.w (pos 1) (pos 1) p.w (sym (one-*ℤ p.w));
+      };
+    }
   where
     whole : (x m n w : ℤ) → x ≡ m *ℤ w → pos 1 *ℤ x ≡ w *ℤ m +ℤ pos 0 *ℤ n
     whole x m n w e = one-*ℤ x ∙ e ∙ identity (var 0 ⊗ var 1) (var 1 ⊗ var 0 ⊕ num (pos 0) ⊗ var 2) (m ∷ w ∷ n ∷ []) refl

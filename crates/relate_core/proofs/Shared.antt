@@ -6,7 +6,7 @@ use Rattle.std.proofs.lemmas.Int.{ints, clamps}
 use Rattle.plane_laws.specs.Plane.{Point}
 use Rattle.plane_exact.specs.Windows.{IsInWindow, IsWithin}
 use Rattle.plane_exact.specs.declared.window.Window.{Window}
-use Rattle.box_laws.proofs.Boxes.Sides.{within_holds}
+use Rattle.plane_exact.proofs.Laws.{within_holds}
 
 -- what is so of two numbers is so of one of the two
 of_either : (IsSo : ℤ → Type 0) (b : Bool) (m n : ℤ) → IsSo m → IsSo n → IsSo (cond b m n)

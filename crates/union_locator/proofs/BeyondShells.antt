@@ -11,7 +11,7 @@ use Rattle.plane_laws.proofs.Points.Same.{same_refl}
 use Rattle.plane_exact.specs.Windows.{IsInWindow, HasCommonPoint, IsLeastWindow}
 use Rattle.plane_exact.specs.declared.point.Pt.{Pt}
 use Rattle.plane_exact.specs.declared.window.Window.{Window}
-use Rattle.edge_index.proofs.LeastBoxes.{within_holds}
+use Rattle.plane_exact.proofs.Laws.{within_holds}
 use Rattle.point_set.specs.declared.figure.Area.{Area}
 use Rattle.point_set.specs.declared.figure.Figure.{Figure}
 use Rattle.point_set.specs.Location.{location, location_by, edges_of_rings, rings_of}
@@ -100,8 +100,8 @@ pub near_by_boxes :
 near_by_boxes area p window box round is = (
   λ near. record {
     point = near.common.point;
-    here = within_holds _ _ near.common.point (one_least_window near.round round) near.common.here;
-    there = within_holds _ _ near.common.point (one_least_window near.is.1 is.1) near.common.there;
+    here = within_holds (one_least_window near.round round) near.common.point near.common.here;
+    there = within_holds (one_least_window near.is.1 is.1) near.common.point near.common.there;
   },
   λ common. record { window = window; round = round; box = box; is = is; common = common },
 )

@@ -13,8 +13,7 @@ use Rattle.plane_exact.specs.Windows.{HasCommonPoint, IsLeastWindow}
 use Rattle.plane_exact.specs.declared.point.Pt.{Pt}
 use Rattle.plane_exact.specs.declared.point.Seg.{Seg}
 use Rattle.plane_exact.specs.declared.window.Window.{Window}
-use Rattle.plane_exact.proofs.Laws.{diagonal_window}
-use Rattle.edge_index.proofs.LeastBoxes.{within_holds}
+use Rattle.plane_exact.proofs.Laws.{diagonal_window, within_holds}
 use Rattle.edge_index.specs.Segments.{ArePlacesIn, IsWindowOf, MeetsAtPlace}
 use Rattle.point_set.specs.declared.figure.Area.{Area}
 use Rattle.point_set.specs.declared.figure.Figure.{Figure}
@@ -60,7 +59,7 @@ module _ (areas : List Area) (boxes : List Window) (are : AreShellBoxes areas bo
           common = record {
             point = m.meets.common.point;
             here = m.meets.common.there;
-            there = within_holds _ _ m.meets.common.point (one_least_window found own) m.meets.common.here;
+            there = within_holds (one_least_window found own) m.meets.common.point m.meets.common.here;
           };
         }
 

@@ -14,7 +14,7 @@ use Rattle.plane_laws.proofs.Points.Same.{same_refl}
 use Rattle.plane_laws.proofs.Segments.Mixes.{segment_same}
 use Rattle.plane_exact.proofs.Laws.{least_of_ends}
 use Rattle.ring_laws.proofs.Germs.Edges.{on_true}
-use Rattle.box_laws.proofs.Boxes.Sides.{within_holds}
+use Rattle.plane_exact.proofs.Laws.{within_holds}
 
 -- the box of an edge
 abbrev pub box_of : Seg → Window

@@ -14,7 +14,8 @@ use Rattle.box_laws.specs.Boxes.{IsInBox, IsNearBox, IsNearWindow}
 use Rattle.plane_laws.proofs.Points.Same.{same_refl, same_sym, same_trans}
 use Rattle.plane_exact.proofs.Laws.{common_point, least_of_point, low_at_most_high}
 use Rattle.figure_laws.proofs.Edges.Windows.{one_least_window}
-use Rattle.box_laws.proofs.Boxes.Sides.{none_inside, in_window, within_holds}
+use Rattle.plane_exact.proofs.Laws.{within_holds}
+use Rattle.box_laws.proofs.Boxes.Sides.{none_inside, in_window}
 
 -- the whole numbers next to a fraction
 record HasRange (x w : ℤ) : Type 0 where

@@ -4,23 +4,14 @@ use Rattle.std.proofs.Common.{arith}
 use Rattle.std.specs.Prelude.{Option, Some, None}
 use Rattle.whole_algebra.proofs.Laws.{linear}
 use Rattle.whole_algebra.proofs.Polynomials.{var, num, ◌⊕◌, ◌⊖◌, ◌⊗◌, minus, identity}
-use Rattle.whole_algebra.proofs.Signs.{by_order, scale_≤ℤ_right, ≤ℤ_trans}
+use Rattle.whole_algebra.proofs.Signs.{by_order}
 use Rattle.plane_laws.specs.Plane.{Point}
-use Rattle.plane_exact.specs.Windows.{IsInWindow, IsWithin}
+use Rattle.plane_exact.specs.Windows.{IsInWindow}
 use Rattle.plane_exact.specs.declared.window.Window.{Window}
 use Rattle.box_laws.specs.Boxes.{IsInBox}
 use Rattle.plane_laws.proofs.Near.Near.{IsNear, reach_of, positive_near}
 use Rattle.plane_laws.proofs.Near.Parted.{Affine, at_point}
 use Rattle.figure_laws.proofs.Lists.Places.{some_same}
-
--- a box that is within another holds no more than it
-pub within_holds : {inner outer : Window} → IsWithin inner outer → (p : Point) → IsInWindow inner p → IsInWindow outer p
-within_holds h p k = record {
-  left = ≤ℤ_trans (scale_≤ℤ_right (omega (arith, linear, p.heavy)) h.left) k.left;
-  right = ≤ℤ_trans k.right (scale_≤ℤ_right (omega (arith, linear, p.heavy)) h.right);
-  bottom = ≤ℤ_trans (scale_≤ℤ_right (omega (arith, linear, p.heavy)) h.bottom) k.bottom;
-  top = ≤ℤ_trans k.top (scale_≤ℤ_right (omega (arith, linear, p.heavy)) h.top);
-}
 
 -- ---- the four sides
 -- a side of a window

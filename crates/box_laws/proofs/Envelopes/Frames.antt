@@ -1,10 +1,9 @@
 -- The envelope of a whole figure holds it; so each common part of two frames holds all that is in neither exterior.
-use Rattle.std.proofs.Common.{◌⊎◌, inl, inr, refl, arith}
+use Rattle.std.proofs.Common.{◌⊎◌, inl, inr, refl}
 use Rattle.std.specs.Prelude.{Option, Some, None}
-use Rattle.std.proofs.lemmas.Int.{ints, clamps}
 use Rattle.im_matrix.specs.declared.Loc.TheVariants.{Exterior}
 use Rattle.plane_laws.specs.Plane.{Point}
-use Rattle.plane_exact.specs.Windows.{IsWithin, join_boxes}
+use Rattle.plane_exact.specs.Windows.{join_boxes}
 use Rattle.plane_exact.specs.declared.window.Window.{Window}
 use Rattle.point_set.specs.declared.dim_loc.DimLoc.{DimLoc}
 use Rattle.point_set.specs.declared.dim_loc.DimLoc.TheVariants as kind
@@ -17,28 +16,11 @@ use Rattle.point_set.specs.Shape.{IsWellShaped}
 use Rattle.box_laws.specs.Boxes.{IsInBox, IsCommonPart, HoldsFigure, HoldsCommonPart, LawFrameHolds, join, frame}
 use Rattle.figure_laws.proofs.Points.Kinds.{interior_is_covered}
 use Rattle.kind_laws.proofs.Location.Decided.{kind_is_decided}
-use Rattle.box_laws.proofs.Boxes.Sides.{none_inside, in_window, within_holds}
+use Rattle.plane_exact.proofs.Laws.{join_holds_first, join_holds_second, within_holds}
+use Rattle.box_laws.proofs.Boxes.Sides.{none_inside, in_window}
 use Rattle.box_laws.proofs.Envelopes.Hold.{covered_in, line_in, point_in}
 
 -- ---- boxes that are joined
--- each of two boxes is within the one that holds both
-within_left : (box other : Window) → IsWithin box (join_boxes box other)
-within_left box other = record {
-  left = omega (arith, ints, clamps);
-  right = omega (arith, ints, clamps);
-  bottom = omega (arith, ints, clamps);
-  top = omega (arith, ints, clamps);
-}
-
--- and the second too
-within_right : (box other : Window) → IsWithin other (join_boxes box other)
-within_right box other = record {
-  left = omega (arith, ints, clamps);
-  right = omega (arith, ints, clamps);
-  bottom = omega (arith, ints, clamps);
-  top = omega (arith, ints, clamps);
-}
-
 -- what is in the first box, where there is one, is in both together
 in_join_left : (u w : Option Window) (p : Point) → IsInBox u p → IsInBox (join u w) p
 in_join_left None w p inside = absurd (none_inside inside)
@@ -46,7 +28,7 @@ in_join_left (Some box) None p inside = inside
 in_join_left (Some box) (Some other) p inside = record {
   box = join_boxes box other;
   is = refl;
-  within = within_holds (within_left box other) p (in_window inside);
+  within = within_holds (join_holds_first box other) p (in_window inside);
 }
 
 -- and what is in the second
@@ -56,7 +38,7 @@ in_join_right (Some box) None p inside = absurd (none_inside inside)
 in_join_right (Some box) (Some other) p inside = record {
   box = join_boxes box other;
   is = refl;
-  within = within_holds (within_right box other) p (in_window inside);
+  within = within_holds (join_holds_second box other) p (in_window inside);
 }
 
 -- ---- one figure

@@ -1,5 +1,5 @@
 -- What a figure has lies in its four envelopes; so what lies outside of a box shows that one of the four sticks out of it.
-use Rattle.std.proofs.Common.{◌≡◌, inl, inr, ◌+◌, ℤ, pos, ◌<ℤ◌, Bool, true, false, not, ◌||◌, ◌&&◌, if◌then◌else◌, List, [], ◌∷◌, ◌++◌, ap}
+use Rattle.std.proofs.Common.{◌≡◌, inl, inr, ◌+◌, ℤ, pos, ◌<ℤ◌, Bool, true, false, not, ◌||◌, ◌&&◌, List, [], ◌∷◌, ◌++◌, ap}
 use Rattle.std.proofs.Common.{refl, sym, subst, ◌∙◌, arith}
 use Rattle.std.specs.Prelude.{Option, Some, None, int_le}
 use Rattle.std.specs.List.{AllByRecursion, list_all}
@@ -25,7 +25,8 @@ use Rattle.plane_laws.proofs.Segments.On.{Decides-int_le}
 use Rattle.figure_laws.proofs.Lists.Places.{same_position}
 use Rattle.figure_laws.proofs.Points.Same.{count_at-same}
 use Rattle.kind_laws.proofs.Location.EdgeRays.{all_split}
-use Rattle.box_laws.proofs.Boxes.Sides.{none_inside, in_window, Side, distance, within_holds}
+use Rattle.plane_exact.proofs.Laws.{within_holds}
+use Rattle.box_laws.proofs.Boxes.Sides.{none_inside, in_window, Side, distance}
 use Rattle.box_laws.proofs.Envelopes.Past.{IsBehind, IsBeyondAll, in_envelope_or_past, uncovered_beyond, off_all_behind, none_at}
 use Rattle.box_laws.proofs.Envelopes.Ways.{both_of_way}
 

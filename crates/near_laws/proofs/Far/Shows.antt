@@ -205,7 +205,8 @@ module _ (a b : Figure) (valid : AreValid a b) (rule : Rule) (x y : Extent) (is_
     -- at the point itself
     at_point : IsInCell a b rule c v → 1 ≤ rank (beyond_cell x y w c)
     at_point at =
-        told_there 1 (omega arith) v out at (told_zero a valid.a_shaped rule x is_x w v out) (told_zero b valid.b_shaped rule y is_y w v out)
+        told_there 1 (omega arith) v out at (told_zero a valid.a_shaped rule x is_x w v out)
+        (told_zero b valid.b_shaped rule y is_y w v out)
 
     -- the positions and the line ends of both
     all_ends : List Pt

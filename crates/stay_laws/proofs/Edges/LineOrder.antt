@@ -34,8 +34,10 @@ unfolding shift rise
 steps_of_mixes {a} {b} {x} {y} on_x on_y =
     let step = step_of_mixes on_x.mix.times on_x.s on_x.t on_y.mix.times on_y.s on_y.t in
     let m = on_x.mix in
-    let n = on_y.mix in
-    (step x.x x.w y.x y.w a.x a.w b.x b.w m.across m.mass n.across n.mass, step x.y x.w y.y y.w a.y a.w b.y b.w m.above m.mass n.above n.mass)
+    let n = on_y.mix in (
+      step x.x x.w y.x y.w a.x a.w b.x b.w m.across m.mass n.across n.mass,
+      step x.y x.w y.y y.w a.y a.w b.y b.w m.above m.mass n.above n.mass,
+    )
 
 -- two multiples of one whole
 ratio : (k l m c d y z whole : ℤ) → (k *ℤ l) *ℤ y ≡ c *ℤ whole → (k *ℤ m) *ℤ z ≡ d *ℤ whole → ((k *ℤ m) *ℤ c) *ℤ z ≡ ((k *ℤ l) *ℤ d) *ℤ y

@@ -117,7 +117,8 @@ module _ (area : Area) (i : ℕ) (e : Seg) (e_is : IsAtPlace (edges_of_rings (ri
 
   -- a point to which k steps from v are s of a direction lies along it
   along_way :
-      (d : Direction) (p : Point) (s k : ℤ) → pos 0 <ℤ s → pos 0 <ℤ k → k *ℤ shift v p ≡ s *ℤ d.x → k *ℤ rise v p ≡ s *ℤ d.y → IsInCone v d d p
+      (d : Direction) (p : Point) (s k : ℤ) → pos 0 <ℤ s → pos 0 <ℤ k → k *ℤ shift v p ≡ s *ℤ d.x → k *ℤ rise v p ≡ s *ℤ d.y
+      → IsInCone v d d p
   along_way d p s k hs hk across above = record {
     i = s;
     j = pos 0;

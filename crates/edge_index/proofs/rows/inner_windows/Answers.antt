@@ -17,6 +17,7 @@ loop-place-preserved c =
     let right = c.window_at-right.ensures.window
     ∙ ap (λ (ws : List Window). window_at segs leaves ws (2 * place + 2)) c.deref-in-loop-place.ensures.value in
     let sides = c.join.ensures in
-    let both = joined_by_sides c.join.result c.window_at-left.result c.window_at-right.result sides.low_x sides.low_y sides.high_x sides.high_y in
+    let both = joined_by_sides c.join.result c.window_at-left.result c.window_at-right.result sides.low_x sides.low_y sides.high_x
+    sides.high_y in
     joined_more segs leaves inner place c.join.result c.window_at-left.result c.window_at-right.result before
     (omega (arith, before.count)) left right both

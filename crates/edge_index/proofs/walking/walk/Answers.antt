@@ -52,7 +52,8 @@ view_here :
     (g : Over) (c : After-meets-meets g) → (view_of c.args.w (g.T.Boxes.rows c.args.rows.now)).meets c.in-Some.place ≡ c.meets-meets.result
 view_here g c =
     meets_is c.args.w
-    (g.T.Boxes.rows c.args.rows.now) c.in-Some.place c.look-row.result c.meets-meets.result c.look-row.ensures.row c.meets-meets.ensures.common
+    (g.T.Boxes.rows c.args.rows.now) c.in-Some.place c.look-row.result c.meets-meets.result c.look-row.ensures.row
+    c.meets-meets.ensures.common
 
 pub loop-next-preserved-then-not-meets : goal.loop-next-preserved-then-not-meets
 loop-next-preserved-then-not-meets g c =

@@ -12,7 +12,10 @@ loop-section-preserved c =
     let below : c.loop-section.section-index < length c.args.sections.now = omega arith in
     let given : IsShort c.section-item.result.dir = subst (λ (s : Section). IsShort s.dir) (sym c.section-item.is)
     (c.requires.short c.loop-section.section-index c.section-item.result below) in
-    let short : IsShort c.lowest.result = record { across = le_trans c.lowest.ensures.across given.across; above = le_trans c.lowest.ensures.above given.above } in
+    let short : IsShort c.lowest.result = record {
+      across = le_trans c.lowest.ensures.across given.across;
+      above = le_trans c.lowest.ensures.above given.above;
+    } in
     let pushed = sym c.push_reserved.ensures.items in
     record {
       zip =
@@ -20,7 +23,8 @@ loop-section-preserved c =
           (take (c.loop-section.section-index + 1) c.args.sections.now) rays) pushed
           (zip_more
           (λ (s : Section)
-          (ray : Dir). IsRayOf s.dir ray) c.args.sections.now c.loop-section.rays.items c.loop-section.section-index c.section-item.result c.lowest.result below c.section-item.is c.loop-section.invariant.zip c.lowest.ensures.ray);
+          (ray : Dir). IsRayOf s.dir ray) c.args.sections.now c.loop-section.rays.items c.loop-section.section-index c.section-item.result
+          c.lowest.result below c.section-item.is c.loop-section.invariant.zip c.lowest.ensures.ray);
       short =
           subst (λ (rays : List Dir). All IsShort rays) pushed
           (All-push IsShort c.loop-section.rays.items c.lowest.result c.loop-section.invariant.short short);

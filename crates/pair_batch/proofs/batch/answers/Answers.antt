@@ -19,5 +19,6 @@ returns g c =
     = λ worker below. let given = (c.in_ok-made.ensures.each worker (Ok []) below).1 in search rules in
     record {
       answers = IfOk-weaker c.joined.result (AreJoined made) (AreAnswersTo c.args.query a c.args.rule list)
-          (λ all are. answers_joined c.args.query a c.args.rule list workers made all c.requires.some count each are) c.joined.ensures.joined;
+          (λ all are. answers_joined c.args.query a c.args.rule list workers made all c.requires.some count each are)
+          c.joined.ensures.joined;
     }

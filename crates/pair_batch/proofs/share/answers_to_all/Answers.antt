@@ -17,7 +17,8 @@ loop-figure-preserved c =
     let answer = c.in_ok-evaluate.field-0 in
     let is : IsAnswerTo query a b rule answer
     = subst (λ f. IsAnswerTo query f b rule answer) c.loop-figure.invariant.session
-    (subst (λ f. IsAnswerTo query c.loop-figure.session.figure f rule answer) c.in_ok-plain.ensures.figure c.in_ok-evaluate.ensures.points) in
+    (subst (λ f. IsAnswerTo query c.loop-figure.session.figure f rule answer) c.in_ok-plain.ensures.figure
+    c.in_ok-evaluate.ensures.points) in
     let more = one_more_answer query a rule (take k list) c.loop-figure.answers b answer c.loop-figure.invariant.answers is in
     record {
       session = c.evaluate.ensures.figure_a ∙ c.loop-figure.invariant.session;

@@ -6,7 +6,10 @@ use Rattle.relate_prep.proofs.session.compare_each.Goals as goal
 
 pub compare-requires : goal.compare-requires
 compare-requires c =
-    record { name = name_there c.requires.names c.loop-place.invariant c.loop-place-test.true c.index-cells-place.result c.index-others-place.result }
+    record {
+      name = name_there c.requires.names c.loop-place.invariant c.loop-place-test.true c.index-cells-place.result
+          c.index-others-place.result;
+    }
 
 pub loop-place-preserved : goal.loop-place-preserved
 loop-place-preserved c =

@@ -15,13 +15,15 @@ use Rattle.ring_sides.proofs.edges.add_holes.Goals as goal
 
 pub interior_side-requires-clause-enough : goal.interior_side-requires-clause-enough
 interior_side-requires-clause-enough c =
-    let at = read_at c.as_slice-hole-items.result.now c.args.area.now.holes c.loop-i.i c.hole-item.result c.as_slice-hole-items.ensures.items
+    let at = read_at c.as_slice-hole-items.result.now c.args.area.now.holes c.loop-i.i c.hole-item.result
+    c.as_slice-hole-items.ensures.items
     c.loop-i-test.true c.hole-item.is in
     all_at (λ (ring : List Pt). ¬ HasTooFewPoints ring) (rings_of c.args.area.now) (suc c.loop-i.i) c.hole-item.result c.requires.enough at
 
 pub interior_side-requires-clause-simple : goal.interior_side-requires-clause-simple
 interior_side-requires-clause-simple c =
-    let at = read_at c.as_slice-hole-items.result.now c.args.area.now.holes c.loop-i.i c.hole-item.result c.as_slice-hole-items.ensures.items
+    let at = read_at c.as_slice-hole-items.result.now c.args.area.now.holes c.loop-i.i c.hole-item.result
+    c.as_slice-hole-items.ensures.items
     c.loop-i-test.true c.hole-item.is in
     all_at (λ (ring : List Pt). ¬ CrossesItself ring) (rings_of c.args.area.now) (suc c.loop-i.i) c.hole-item.result c.requires.simple at
 

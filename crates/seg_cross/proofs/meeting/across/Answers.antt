@@ -12,11 +12,13 @@ use Rattle.seg_cross.proofs.meeting.across.Goals.{Then-first-second, Else-first-
 ahead : (c : Then-first-second) → of_a c.args.s c.args.t <ℤ of_b c.args.s c.args.t
 ahead c =
     let less : narrow c.turn_of-first.result <ℤ narrow c.turn_of-second.result = omega (arith, ints) in
-    as_turns _ _ _ _ c.turn_of-first.ensures.turn c.turn_of-first.ensures.size c.turn_of-second.ensures.turn c.turn_of-second.ensures.size less
+    as_turns _ _ _ _ c.turn_of-first.ensures.turn c.turn_of-first.ensures.size c.turn_of-second.ensures.turn
+    c.turn_of-second.ensures.size less
 
 apart : (c : Then-first-second) → ¬ IsOneSide (of_a c.args.s c.args.t) (of_b c.args.s c.args.t)
 apart c =
-    not_one_side _ _ _ _ _ c.turn_of-first.ensures.turn c.turn_of-first.ensures.size c.turn_of-second.ensures.turn c.turn_of-second.ensures.size c.is_one_side.ensures.side c.if-is_one_side.false
+    not_one_side _ _ _ _ _ c.turn_of-first.ensures.turn c.turn_of-first.ensures.size c.turn_of-second.ensures.turn
+    c.turn_of-second.ensures.size c.is_one_side.ensures.side c.if-is_one_side.false
 
 -- the same the other way round
 back : (c : Else-first-second) → of_b c.args.s c.args.t <ℤ of_a c.args.s c.args.t
@@ -28,7 +30,8 @@ back c =
 
 apart_back : (c : Else-first-second) → ¬ IsOneSide (of_a c.args.s c.args.t) (of_b c.args.s c.args.t)
 apart_back c =
-    not_one_side _ _ _ _ _ c.turn_of-first.ensures.turn c.turn_of-first.ensures.size c.turn_of-second.ensures.turn c.turn_of-second.ensures.size c.is_one_side.ensures.side c.if-is_one_side.false
+    not_one_side _ _ _ _ _ c.turn_of-first.ensures.turn c.turn_of-first.ensures.size c.turn_of-second.ensures.turn
+    c.turn_of-second.ensures.size c.is_one_side.ensures.side c.if-is_one_side.false
 
 pub crossing-requires-clause-first : goal.crossing-requires-clause-first
 crossing-requires-clause-first c =
@@ -70,8 +73,10 @@ pub returns-then-first-second-clause-exact : goal.returns-then-first-second-clau
 returns-then-first-second-clause-exact c =
     let less : narrow c.turn_of-first.result <ℤ narrow c.turn_of-second.result = omega (arith, ints) in
     crossing_ahead c.args.s c.args.t _ _ _
-    (as_turns _ _ _ _ c.turn_of-first.ensures.turn c.turn_of-first.ensures.size c.turn_of-second.ensures.turn c.turn_of-second.ensures.size less)
-    (not_one_side _ _ _ _ _ c.turn_of-first.ensures.turn c.turn_of-first.ensures.size c.turn_of-second.ensures.turn c.turn_of-second.ensures.size c.is_one_side.ensures.side c.if-is_one_side.false)
+    (as_turns _ _ _ _ c.turn_of-first.ensures.turn c.turn_of-first.ensures.size c.turn_of-second.ensures.turn
+    c.turn_of-second.ensures.size less)
+    (not_one_side _ _ _ _ _ c.turn_of-first.ensures.turn c.turn_of-first.ensures.size c.turn_of-second.ensures.turn
+    c.turn_of-second.ensures.size c.is_one_side.ensures.side c.if-is_one_side.false)
     c.requires.both_sides.sides
     (plain_turn _ _ c.turn_of-second.ensures.turn c.turn_of-second.ensures.size).is
     (minus_turn _ _ c.turn_of-first.ensures.turn c.turn_of-first.ensures.size)
@@ -84,7 +89,8 @@ returns-else-first-second-clause-exact c =
     let second = plain_turn _ _ c.turn_of-second.ensures.turn c.turn_of-second.ensures.size in
     crossing_back c.args.s c.args.t _ _ _
     (below_from_slanted c.args.s c.args.t c.requires.both_sides.slanted (subst₂ ◌≤ℤ◌ second.is first.is less))
-    (not_one_side _ _ _ _ _ c.turn_of-first.ensures.turn c.turn_of-first.ensures.size c.turn_of-second.ensures.turn c.turn_of-second.ensures.size c.is_one_side.ensures.side c.if-is_one_side.false)
+    (not_one_side _ _ _ _ _ c.turn_of-first.ensures.turn c.turn_of-first.ensures.size c.turn_of-second.ensures.turn
+    c.turn_of-second.ensures.size c.is_one_side.ensures.side c.if-is_one_side.false)
     c.requires.both_sides.sides
     (minus_turn _ _ c.turn_of-second.ensures.turn c.turn_of-second.ensures.size)
     first.is

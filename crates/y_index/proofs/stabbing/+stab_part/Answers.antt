@@ -24,7 +24,8 @@ returns-then-level-root g t c =
     let low : c.args.level.floor <ℤ c.look-root.result.low = omega (arith, ints) in
     record {
       fold =
-          folded_left c.args.level.floor c.args.level.ceiling r low _ c.args.state c.stab_part-before.result c.stab_part-before.ensures.fold;
+          folded_left c.args.level.floor c.args.level.ceiling r low _ c.args.state c.stab_part-before.result
+          c.stab_part-before.ensures.fold;
       looked = omega arith;
       used = used_left c.args.level.floor c.args.level.ceiling r low _ _ _ c.look-root.ensures.used c.stab_part-before.ensures.used;
       used_low = used_never c.args.level.floor c.args.level.ceiling r low _ _;

@@ -35,7 +35,8 @@ returns-clause-row g c =
     (within g (goal.at.returns-clause-row g c).After-deref-2) in
     let result = c.row_at.result in
     let by_inner = subst
-    (λ (inner : List Window). result ≡ row_at c.as_slice.result.now c.deref.result.now inner place) c.deref-2.ensures.value c.row_at.ensures.row in
+    (λ (inner : List Window). result ≡ row_at c.as_slice.result.now c.deref.result.now inner place) c.deref-2.ensures.value
+    c.row_at.ensures.row in
     let row = subst₂
     (λ (segs : List Seg)
     (leaves : List ℕ). result ≡ row_at segs leaves s.inner.items place) c.as_slice.ensures.items c.deref.ensures.value by_inner in
