@@ -8,5 +8,5 @@ returns-clause-ok c =
     let i = c.in_ok-interior.ensures.ok in
     let b = c.in_ok-boundary.ensures.ok in
     let e = c.in_ok-exterior.ensures.ok in
-    let last = (e.interior, (e.boundary, (e.exterior, omega arith))) in
-    rest_is c.args.text.now 0 _ (i.interior, (i.boundary, (i.exterior, (b.interior, (b.boundary, (b.exterior, last))))))
+    rest_is c.args.text.now 0 _
+    (i.interior, i.boundary, i.exterior, b.interior, b.boundary, b.exterior, e.interior, e.boundary, e.exterior, omega arith)
