@@ -11,7 +11,8 @@ use Rattle.whole_algebra.proofs.Certificates.{same, same_from, scaled, vanishing
 use Rattle.whole_algebra.proofs.Signs.{by_sign, pos-*-pos, pos-*-neg, pos_factor, neg_factor, zero_factor, pos_nonzero}
 use lib.IntN.{*ℤ_comm, *ℤ-zero}
 use Rattle.plane_laws.specs.Directions.{Direction, past_half, bend_of, compare_ways, PointSameWay}
-use Rattle.whole_algebra.proofs.Comparisons.{int_cmp_less, int_cmp_equal, less_int_cmp, equal_int_cmp, same_int_cmp, then_second, then_gives_equal}
+use Rattle.whole_algebra.proofs.Comparisons.{int_cmp_less, int_cmp_equal, less_int_cmp, equal_int_cmp, same_int_cmp}
+use Rattle.whole_algebra.proofs.Comparisons.{then_second, then_gives_equal}
 
 -- ---- the halves
 half_up : (dx dy : ℤ) → pos 0 <ℤ dy → past_half dx dy ≡ false

@@ -21,7 +21,8 @@ invariant_of-result c =
 quotients :
     {x y w d : ℤ} → FitsSigned w128 x → FitsSigned w128 y → FitsSigned w128 w → pos 0 <ℤ d → unsigned_abs d ∣ unsigned_abs (wide x)
     → unsigned_abs d ∣ unsigned_abs (wide y) → unsigned_abs d ∣ unsigned_abs (wide w) → FitsSigned w128 d
-    → (wide (int_div (wide x) (wide d)) *ℤ d ≡ x) × (wide (int_div (wide y) (wide d)) *ℤ d ≡ y) × (wide (int_div (wide w) (wide d)) *ℤ d ≡ w)
+    → (wide (int_div (wide x) (wide d)) *ℤ d ≡ x) × (wide (int_div (wide y) (wide d)) *ℤ d ≡ y)
+    × (wide (int_div (wide w) (wide d)) *ℤ d ≡ w)
 quotients {x} {y} {w} {d} fx fy fw some hx hy hw f =
     (divided x d fx f some hx, divided y d fy f some hy, divided w d fw f some hw)
 
