@@ -1,6 +1,6 @@
 -- Rows of edges, one line, ring or area on, and the hands of an area's edges.
-use Rattle.std.proofs.Common.{◌≡◌, ℕ, zero, suc, ◌+◌, ◌<◌, ◌≤◌, List, [], ◌∷◌, ◌++◌, map, length, drop, get_or, ap, refl, sym, ◌∙◌, subst}
-use Rattle.std.proofs.Common.{arith, add-one, sum_by}
+use Rattle.std.proofs.Common.{◌≡◌, ℕ, suc, ◌+◌, ◌<◌, ◌≤◌, List, [], ◌∷◌, ◌++◌, map, length, drop, get_or, ap, refl, sym, ◌∙◌, subst}
+use Rattle.std.proofs.Common.{arith, add-one}
 use Rattle.std.specs.List.{All}
 use Rattle.std.proofs.Math.Seq.{drop-cons}
 use Rattle.std.proofs.lemmas.Option.{slice_get_read, get_or_from_slice_get, slice_get_within}
@@ -18,7 +18,6 @@ use Rattle.point_set.specs.Edges.{OwnedEdge, owned_by, edges_of_lines, edges_of_
 use Rattle.point_set.specs.Location.{rings_of}
 use Rattle.point_set.specs.Rings.{edges_of}
 use Rattle.point_set.specs.Shape.{IsWellShaped, positions_of_area}
-use Rattle.point_set.specs.Sides.{IsInsideHand, other_hand}
 use Rattle.point_set.specs.Validity.{IsAtPlace, IsValid, HasTooFewPoints, CrossesItself, too_few_points, ring_cross}
 use Rattle.figure_laws.proofs.Lists.Counts.{count_by_length, one_of_sum}
 use Rattle.figure_laws.proofs.Lists.Places.{read_at, some_same}

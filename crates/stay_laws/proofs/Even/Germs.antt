@@ -1,13 +1,13 @@
 -- From p to q each edge of a valid figure holds all or none, and no position is met: then each area has the same germ at p and at q along
 -- every direction.
-use Rattle.std.proofs.Common.{◌≡◌, ◌⊎◌, inl, inr, ℕ, zero, suc, ℤ, pos, ◌+ℤ◌, ◌-ℤ◌, ◌*ℤ◌, neg_ℤ, ◌<ℤ◌, Bool, true, false, ◌||◌, List, []}
+use Rattle.std.proofs.Common.{◌≡◌, ◌⊎◌, inl, inr, ℕ, zero, suc, ℤ, pos, ◌-ℤ◌, ◌*ℤ◌, neg_ℤ, ◌<ℤ◌, Bool, true, false, ◌||◌, List, []}
 use Rattle.std.proofs.Common.{◌∷◌, ap, refl, sym, ◌∙◌, subst, arith}
 use Rattle.std.proofs.lemmas.Bool.{true≢false, or_left, or_right}
 use Rattle.im_matrix.specs.declared.Loc.{Loc}
 use Rattle.im_matrix.specs.declared.Loc.TheVariants.{Interior, Boundary, Exterior}
 use lib.IntN.{zero-*ℤ}
 use Rattle.whole_algebra.proofs.Laws.{linear}
-use Rattle.whole_algebra.proofs.Polynomials.{var, num, ◌⊕◌, ◌⊗◌, minus}
+use Rattle.whole_algebra.proofs.Polynomials.{var, num, ◌⊗◌, minus}
 use Rattle.whole_algebra.proofs.Certificates.{same, same_from, scaled, ◌⊞◌}
 use Rattle.whole_algebra.proofs.Signs.{by_sign, sign_of, <ℤ_weaken, <ℤ_apart}
 use Rattle.plane_laws.proofs.Segments.Mixes.{start_on_segment, end_on_segment, on_from_strictly_between}

@@ -16,7 +16,6 @@ use Rattle.im_matrix.specs.declared.Cell.{Cell}
 use Rattle.plane_laws.specs.Directions.{Direction}
 use Rattle.point_set.specs.declared.figure.Figure.{Figure}
 use Rattle.point_set.specs.declared.rule.Rule.{Rule}
-use Rattle.point_set.specs.Location.{IsLocation}
 use Rattle.point_set.specs.Germ.{IsPairGerm}
 
 -- a point v + d/n is strictly between v and p, or it is p
