@@ -11,7 +11,8 @@ use Rattle.area_entry.proofs.Laws.{near_row, places_within, row_of_seg, seg_ther
 use Rattle.geom_valid.specs.Sharing.{SharesAtSome, SharesWithRow}
 
 -- the places near an edge are those of rows
-pub near_within : (e : Seg) (rows : List Edge) (places : List ℕ) → AreNear (IsOnEdge e) rows places → All (λ place. place < length rows) places
+pub near_within : (e : Seg) (rows : List Edge) (places : List ℕ) → AreNear (IsOnEdge e) rows places
+    → All (λ place. place < length rows) places
 near_within e rows places near = places_within near.window rows places near.places_in
 
 -- a row with which an edge has a common segment is near the edge

@@ -25,8 +25,8 @@ first_at f place areas first {before} {other} below is =
     first.each before other (read_at areas areas before other refl (omega (arith, below, first.count)) is)
 
 -- where it is of the group of the area at a place and so beside it
-pub earlier_at : (f : Figure) (place : ℕ) (areas : List Area) → AreFirstAreas f place areas → {before : ℕ} {own area other : Area} → before < place
-    → other ≡ get_or areas before other → IsAtPlace f.areas place own → IsAtPlace f.areas place area → (IsSo : Area → Area → Type 0)
+pub earlier_at : (f : Figure) (place : ℕ) (areas : List Area) → AreFirstAreas f place areas → {before : ℕ} {own area other : Area}
+    → before < place → other ≡ get_or areas before other → IsAtPlace f.areas place own → IsAtPlace f.areas place area → (IsSo : Area → Area → Type 0)
     → (own.group ≡ other.group) × IsSo area other → SomeEarlier f place IsSo
 earlier_at f place areas first {before} {own} {area} {other} below is own_is area_is IsSo so = record {
   area = area;
@@ -40,9 +40,10 @@ earlier_at f place areas first {before} {own} {area} {other} below is own_is are
 }
 
 -- where it isn't so
-pub not_earlier_at : (f : Figure) (place : ℕ) (areas : List Area) → AreFirstAreas f place areas → {before : ℕ} {other : Area} → before < place
-    → other ≡ get_or areas before other → (IsSo : Area → Type 0) → ¬ IsSo other → ¬ IsSoEarlier IsSo f.areas place before
-not_earlier_at f place areas first below is IsSo not so = not (subst IsSo (some_same (sym so.item_is ∙ first_at f place areas first below is)) so.is_so)
+pub not_earlier_at : (f : Figure) (place : ℕ) (areas : List Area) → AreFirstAreas f place areas → {before : ℕ} {other : Area}
+    → before < place → other ≡ get_or areas before other → (IsSo : Area → Type 0) → ¬ IsSo other → ¬ IsSoEarlier IsSo f.areas place before
+not_earlier_at f place areas first below is IsSo not so =
+    not (subst IsSo (some_same (sym so.item_is ∙ first_at f place areas first below is)) so.is_so)
 
 -- where none near the area at a place is so beside it, and those that could be are all near
 pub no_earlier : (f : Figure) (place : ℕ) {own area : Area} → IsAtPlace f.areas place own → IsAtPlace f.areas place area
@@ -109,7 +110,8 @@ was_sound area rank is tested = subst (λ (answer : Result Area InvalidKind). Is
 -- an area that passed the test of a clause isn't so as the clause says: it would fail it as the only area of a figure
 pub not_so : (area : Area) (rank : ℕ) → IsAreaSoundUpTo area rank → (clause : Clause) → rank_of clause < rank → (IsSo : Area → Type 0)
     → (SomeArea (figure_of area) 0 IsSo → Fails (figure_of area) 0 clause) → ¬ IsSo area
-not_so area rank sound clause below IsSo fails so = sound (figure_of area) 0 refl clause below (fails (some_here (figure_of area) 0 area IsSo refl so))
+not_so area rank sound clause below IsSo fails so =
+    sound (figure_of area) 0 refl clause below (fails (some_here (figure_of area) 0 area IsSo refl so))
 
 -- it is sound where it passed all six
 pub sound_from : (area : Area) → positions_of_area area ≤ 1048576 → IsAreaShaped area → IsAreaSoundUpTo area 6 → IsSoundArea area

@@ -88,7 +88,8 @@ crosses_beyond s e p at_a at_b =
     go true false h k =
         crosses_by_sign true false s (turn (point_of e.a) (point_of e.b) p) (turn_of_up s (point_of e.a) (point_of e.b) p at_a at_b h k)
     go false true h k =
-        crosses_by_sign false true (not s) (turn (point_of e.a) (point_of e.b) p) (turn_of_down s (point_of e.a) (point_of e.b) p at_a at_b h k)
+        crosses_by_sign false true (not s) (turn (point_of e.a) (point_of e.b) p)
+        (turn_of_down s (point_of e.a) (point_of e.b) p at_a at_b h k)
         ∙ not-not s
     go false false h k = refl
 
@@ -142,10 +143,12 @@ pub inside_in_box : (box : Window) (ring : List Pt) → IsClosed ring → IsRoun
     → IsInWindow box p
 inside_in_box box ring closed round p inside = record {
   left = not_<ℤ p.x (box.low_x *ℤ p.w) (λ beyond. even (odd_changes p box
-      (λ e h. crosses_beyond true e p (past_left e.a h.start beyond) (past_left e.b h.end beyond) ∙ and-true (differ (is_low p (point_of e.a)) (is_low p (point_of e.b)))) (edges_of ring) ends
+      (λ e h. crosses_beyond true e p (past_left e.a h.start beyond) (past_left e.b h.end beyond)
+      ∙ and-true (differ (is_low p (point_of e.a)) (is_low p (point_of e.b)))) (edges_of ring) ends
       ∙ closed_change (λ v. is_low p (point_of v)) ring closed));
   right = not_<ℤ (box.high_x *ℤ p.w) p.x (λ beyond. even (none_odd p box
-      (λ e h. crosses_beyond false e p (past_right e.a h.start beyond) (past_right e.b h.end beyond) ∙ and-false (differ (is_low p (point_of e.a)) (is_low p (point_of e.b)))) (edges_of ring) ends));
+      (λ e h. crosses_beyond false e p (past_right e.a h.start beyond) (past_right e.b h.end beyond)
+      ∙ and-false (differ (is_low p (point_of e.a)) (is_low p (point_of e.b)))) (edges_of ring) ends));
   bottom = not_<ℤ p.y (box.low_y *ℤ p.w) (λ beyond. even (none_odd p box
       (λ e h. crosses_level e p false (past_bottom e.a h.start beyond) (past_bottom e.b h.end beyond)) (edges_of ring) ends));
   top = not_<ℤ (box.high_y *ℤ p.w) p.y (λ beyond. even (none_odd p box

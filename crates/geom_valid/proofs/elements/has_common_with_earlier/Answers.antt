@@ -42,11 +42,12 @@ loop-other-preserved c =
     let not : ¬ IsSoEarlier IsSo f.areas c.args.place (get_or near i 0)
     = elim c.else-before-place.branch [
       | else-before-place-via-then-before-place+in_ok-have_in_group+else-branch w ↦
-          not_earlier_at f c.args.place c.args.earlier.now c.requires.earlier w.if-before-place.true w.at-then-before-place.ensures.item IsSo
-          (not_from_Decides _ w.in_ok-have_in_group.ensures.common w.if-branch.false)
+          not_earlier_at f c.args.place c.args.earlier.now c.requires.earlier w.if-before-place.true
+          w.at-then-before-place.ensures.item IsSo (not_from_Decides _ w.in_ok-have_in_group.ensures.common w.if-branch.false)
       | else-before-place-via-else-before-place w ↦ (λ so. absurd (omega (arith, so.earlier, w.if-before-place.false)))
     ] in
-    none_on (IsSoEarlier IsSo f.areas c.args.place) near i (get_or near i 0) c.loop-other.invariant (slice_get-get_or near i 0 c.loop-other-test.true) not
+    none_on (IsSoEarlier IsSo f.areas c.args.place) near i (get_or near i 0) c.loop-other.invariant
+    (slice_get-get_or near i 0 c.loop-other-test.true) not
 
 pub returns : goal.returns
 returns c =
@@ -56,5 +57,6 @@ returns c =
     let none = no_earlier c.args.f.now c.args.place own c.requires.area (HaveInCommon c.args.what) c.as_slice-other-items.ensures.items
     c.loop-other-test.false c.loop-other.invariant
     (λ k other is so. c.in_ok-near.ensures.near k
-    (common_boxes_meet c.args.what areas c.args.boxes.now c.requires.boxes shaped c.args.place k c.args.sound.now other c.requires.area is so)) in
+    (common_boxes_meet c.args.what areas c.args.boxes.now c.requires.boxes shaped
+    c.args.place k c.args.sound.now other c.requires.area is so)) in
     record { common = (λ e. absurd (false≢true e), λ h. absurd (none h)) }

@@ -13,5 +13,6 @@ pub returns : goal.returns
 returns c =
     let same = c.if-group-area.false ∙ ap (λ (a : Area). a.group) c.area.ensures.area in
     record {
-      common = IfOk-weaker c.have_in_common.result _ _ (λ b decides. (λ t. (same, decides.0 t), λ h. decides.1 h.1)) c.have_in_common.ensures.common;
+      common = IfOk-weaker c.have_in_common.result _ _
+          (λ b decides. (λ t. (same, decides.0 t), λ h. decides.1 h.1)) c.have_in_common.ensures.common;
     }
