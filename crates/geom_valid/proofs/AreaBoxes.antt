@@ -14,10 +14,13 @@ use Rattle.point_set.specs.declared.figure.Area.{Area}
 use Rattle.point_set.specs.Location.{edges_of_rings, location, location_by, rings_of}
 use Rattle.point_set.specs.Rings.{edges_of, is_inside, is_on_edges}
 use Rattle.point_set.specs.Shape.{IsAreaShaped}
-use Rattle.point_set.specs.Validity.{AreasOverlap, AreasShareSegment, IsAtPlace, IsOnEdge}
+use Rattle.point_set.specs.Validity.{IsAtPlace, IsOnEdge}
 use Rattle.figure_laws.proofs.Lists.Places.{all_at}
 use Rattle.geom_valid.specs.Boxes.{AreRound, IsRoundArea, IsRoundRing, MeetAt}
-use Rattle.geom_valid.proofs.NearPlaces.{round_at}
+use Rattle.geom_valid.specs.Elements.{HaveInCommon, OnInterior}
+use Rattle.geom_valid.specs.declared.elements.Common.{Common}
+use Rattle.geom_valid.specs.declared.elements.Common.TheVariants as common
+use Rattle.geom_valid.proofs.NearPlaces.{meet_at}
 use Rattle.geom_valid.proofs.RingBoxes.{AreEndsIn, ends_in, inside_in_box}
 
 -- ---- an area's points are in its box
@@ -46,39 +49,27 @@ interior_in_box box area shaped round p interior =
     inside_in_box box area.shell shaped.shell.closed (All-head (IsRoundRing box) area.shell area.holes round) p
     (shell_by (is_on_edges p (edges_of_rings (rings_of area))) (is_inside p area.shell) (list_any (is_inside p) area.holes) interior)
 
+-- ---- what is known where interior points are asked for
+pub on_interior : (what : Common) {P Q : Type 0} → (P → Q) → OnInterior what P → OnInterior what Q
+on_interior common.Segment follows known = tt
+on_interior common.Interior follows known = follows known
+
 -- ---- two areas of a list
-pub share_boxes_meet : (areas : List Area) (boxes : List Window) → AreRound IsRoundArea areas boxes → (place k : ℕ) (area other : Area)
-    → IsAtPlace areas place area → IsAtPlace areas k other → AreasShareSegment area other → MeetAt boxes k place
-share_boxes_meet areas boxes round place k area other area_is other_is h =
-    let here = round_at IsRoundArea areas boxes round k other other_is in
-    let beside = round_at IsRoundArea areas boxes round place area area_is in
+-- their boxes meet where they have a segment or an interior point in common
+pub common_boxes_meet : (what : Common) (areas : List Area) (boxes : List Window) → AreRound IsRoundArea areas boxes
+    → OnInterior what (All IsAreaShaped areas) → (place k : ℕ) (area other : Area) → IsAtPlace areas place area → IsAtPlace areas k other
+    → HaveInCommon what area other → MeetAt boxes k place
+common_boxes_meet common.Segment areas boxes round shaped place k area other area_is other_is h =
     let s = h.share in
     let both = s.held s.a (start_on_segment s.a s.b) in
-    record {
-      box = here.box;
-      beside = beside.box;
-      box_is = here.box_is;
-      beside_is = beside.box_is;
-      common = record {
-        point = s.a;
-        here = edge_in_box here.box other here.round h.j h.f h.f_is s.a both.1;
-        there = edge_in_box beside.box area beside.round h.i h.e h.e_is s.a both.0;
-      };
-    }
-
-pub overlap_boxes_meet : (areas : List Area) (boxes : List Window) → AreRound IsRoundArea areas boxes → All IsAreaShaped areas → (place k : ℕ)
-    (area other : Area) → IsAtPlace areas place area → IsAtPlace areas k other → AreasOverlap area other → MeetAt boxes k place
-overlap_boxes_meet areas boxes round shaped place k area other area_is other_is h =
-    let here = round_at IsRoundArea areas boxes round k other other_is in
-    let beside = round_at IsRoundArea areas boxes round place area area_is in
-    record {
-      box = here.box;
-      beside = beside.box;
-      box_is = here.box_is;
-      beside_is = beside.box_is;
-      common = record {
-        point = h.p;
-        here = interior_in_box here.box other (all_at IsAreaShaped areas k other shaped other_is) here.round h.p h.in_other;
-        there = interior_in_box beside.box area (all_at IsAreaShaped areas place area shaped area_is) beside.round h.p h.in_area;
-      };
-    }
+    meet_at IsRoundArea areas boxes round place k area other area_is other_is (λ box beside here there. record {
+      point = s.a;
+      here = edge_in_box box other here h.j h.f h.f_is s.a both.1;
+      there = edge_in_box beside area there h.i h.e h.e_is s.a both.0;
+    })
+common_boxes_meet common.Interior areas boxes round shaped place k area other area_is other_is h =
+    meet_at IsRoundArea areas boxes round place k area other area_is other_is (λ box beside here there. record {
+      point = h.p;
+      here = interior_in_box box other (all_at IsAreaShaped areas k other shaped other_is) here h.p h.in_other;
+      there = interior_in_box beside area (all_at IsAreaShaped areas place area shaped area_is) there h.p h.in_area;
+    })

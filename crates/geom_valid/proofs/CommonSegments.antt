@@ -1,13 +1,19 @@
 -- Rows of edges have a common segment exactly where one of them has it with a row near it.
 use Rattle.std.proofs.Common.{◌≡◌, ℕ, ◌<◌, List, length, get_or, sym, subst, subst₂}
+use Rattle.std.specs.List.{All}
 use Rattle.std.proofs.lemmas.Option.{slice_get-get_or}
 use Rattle.plane_laws.proofs.Segments.Mixes.{start_on_segment}
 use Rattle.plane_exact.specs.declared.point.Seg.{Seg}
 use Rattle.point_set.specs.declared.edge.Edge.{Edge}
 use Rattle.point_set.specs.Validity.{EdgesShareSegment, IsAtPlace, IsOnEdge, ShareSegment}
 use Rattle.area_entry.specs.RowSections.{AreNear, segs_of_rows}
-use Rattle.area_entry.proofs.Laws.{near_row, row_of_seg, seg_there}
+use Rattle.area_entry.proofs.Laws.{near_row, places_within, row_of_seg, seg_there}
 use Rattle.geom_valid.specs.Sharing.{SharesAtSome, SharesWithRow}
+
+-- the places near an edge are those of rows
+pub near_within : (e : Seg) (rows : List Edge) (places : List ℕ) → AreNear (IsOnEdge e) rows places
+    → All (λ place. place < length rows) places
+near_within e rows places near = places_within near.window rows places near.places_in
 
 -- a row with which an edge has a common segment is near the edge
 pub some_near : (rows : List Edge) (row : Edge) (places : List ℕ) → AreNear (IsOnEdge row.seg) rows places → SharesWithRow rows row

@@ -11,7 +11,7 @@ use Rattle.edge_index.specs.Segments.{ArePlacesIn}
 use Rattle.point_set.specs.Validity.{IsAtPlace}
 use Rattle.figure_laws.proofs.Lists.Places.{some_same}
 use Rattle.plane_exact.specs.Windows.{diagonal_of}
-use Rattle.geom_valid.specs.Boxes.{AreRound, HoldsNear}
+use Rattle.geom_valid.specs.Boxes.{AreRound, HoldsNear, MeetAt}
 use Rattle.geom_valid.proofs.RingLists.{NoneBefore}
 
 -- ---- one item more at the end of a list
@@ -62,18 +62,33 @@ pub round_all : {X : Type 0} (IsRound : Window → X → Type 0) (figures : List
 round_all IsRound figures boxes i before whole = record { count = before.count ∙ whole; round = before.round }
 
 -- a figure's box
-pub record RoundAt {X : Type 0} (IsRound : Window → X → Type 0) (boxes : List Window) (place : ℕ) (figure : X) : Type 0 where
+record RoundAt {X : Type 0} (IsRound : Window → X → Type 0) (boxes : List Window) (place : ℕ) (figure : X) : Type 0 where
   pub box : Window
   pub box_is : IsAtPlace boxes place box
   pub round : IsRound box figure
 
-pub round_at : {X : Type 0} (IsRound : Window → X → Type 0) (figures : List X) (boxes : List Window) → AreRound IsRound figures boxes
+round_at : {X : Type 0} (IsRound : Window → X → Type 0) (figures : List X) (boxes : List Window) → AreRound IsRound figures boxes
     → (place : ℕ) (figure : X) → IsAtPlace figures place figure → RoundAt IsRound boxes place figure
 round_at IsRound figures boxes are place figure is =
     let nowhere : Window = record { low_x = pos 0; low_y = pos 0; high_x = pos 0; high_y = pos 0 } in
     let below : place < length boxes = omega (arith, slice_get_within figures place figure is, are.count) in
     let there = slice_get-get_or boxes place nowhere below in
     record { box = get_or boxes place nowhere; box_is = there; round = are.round place (get_or boxes place nowhere) figure there is }
+
+-- the boxes of two figures meet where any two boxes round them do
+pub meet_at : {X : Type 0} (IsRound : Window → X → Type 0) (figures : List X) (boxes : List Window) → AreRound IsRound figures boxes
+    → (place k : ℕ) (figure other : X) → IsAtPlace figures place figure → IsAtPlace figures k other
+    → ((box beside : Window) → IsRound box other → IsRound beside figure → HasCommonPoint box beside) → MeetAt boxes k place
+meet_at IsRound figures boxes are place k figure other figure_is other_is common =
+    let here = round_at IsRound figures boxes are k other other_is in
+    let there = round_at IsRound figures boxes are place figure figure_is in
+    record {
+      box = here.box;
+      beside = there.box;
+      box_is = here.box_is;
+      beside_is = there.box_is;
+      common = common here.box there.box here.round there.round;
+    }
 
 -- ---- the places that an index of the diagonals finds
 pub near_found : (boxes : List Window) (segs : List Seg) → segs ≡ map diagonal_of boxes → (place : ℕ) (box : Window) → IsAtPlace boxes place box

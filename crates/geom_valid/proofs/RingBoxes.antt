@@ -1,12 +1,13 @@
 -- What is inside a ring is in each box that holds the ring's positions: so where two boxes are apart, nothing is inside both.
-use Rattle.std.proofs.Common.{◌≡◌, ℕ, ℤ, pos, ◌-ℤ◌, ◌*ℤ◌, ◌≤ℤ◌, ◌<ℤ◌, Bool, true, false, not, List, [], ◌∷◌, refl, sym, ◌∙◌, arith}
+use Rattle.std.proofs.Common.{◌≡◌, ℕ, pos, ◌-ℤ◌, ◌*ℤ◌, ◌≤ℤ◌, ◌<ℤ◌, Bool, true, false, not, ◌&&◌, List, [], ◌∷◌, refl, sym, ◌∙◌, arith}
 use Rattle.std.specs.List.{All}
+use Rattle.std.proofs.Math.Bool.{and-false, and-true, not-not}
 use Rattle.std.proofs.lemmas.Bool.{and_parts, false≢true}
 use Rattle.std.proofs.lemmas.List.Elements.{All-nil, All-cons, All-head, All-tail}
 use Rattle.whole_algebra.proofs.Laws.{linear}
 use Rattle.whole_algebra.proofs.Polynomials.{◌⊖◌, ◌⊗◌, identity}
 use Rattle.whole_algebra.proofs.Signs.{not_<ℤ, neg-*-pos, pos-*-pos, nonpos-*-nonpos, nonneg-*-nonpos, pos_factor, neg_factor, scale_≤ℤ_right, <ℤ_weaken}
-use Rattle.plane_laws.proofs.Turns.Turns.{point_at, turn_poly, ◌then◌}
+use Rattle.plane_laws.proofs.Turns.Turns.{point_at, turn_poly, turn_swap, ◌then◌}
 use Rattle.plane_laws.specs.Plane.{Point, turn, rise, shift}
 use Rattle.plane_exact.specs.Places.{point_of}
 use Rattle.plane_exact.specs.Windows.{IsInWindow, HasCommonPoint}
@@ -18,13 +19,13 @@ use Rattle.point_set.specs.Rings.{is_same_position, edge_before, edges_after, ed
 use Rattle.point_set.specs.Shape.{IsClosed, IsRingShaped}
 use Rattle.point_set.specs.Validity.{IsAtPlace}
 use Rattle.figure_laws.proofs.Lists.Places.{all_at}
-use Rattle.ring_laws.proofs.Parity.Flip.{crosses_by_sign}
+use Rattle.ring_laws.proofs.Parity.Flip.{HasSign, crosses_by_sign}
 use Rattle.ring_laws.proofs.Parity.Bands.{Low}
 use Rattle.ring_laws.proofs.Parity.OneEdge.{tells_low, rise_p}
 use Rattle.ring_laws.proofs.Parity.Ring.{closed_change, is_odd_change}
 use Rattle.valid_laws.specs.Entering.{AreBothInside}
 use Rattle.geom_valid.specs.Boxes.{AreRound, IsInBox, IsRoundRing, MeetAt}
-use Rattle.geom_valid.proofs.NearPlaces.{round_at}
+use Rattle.geom_valid.proofs.NearPlaces.{meet_at}
 
 -- ---- the ends of a ring's edges
 pub record AreEndsIn (box : Window) (e : Seg) : Type 0 where
@@ -59,66 +60,37 @@ weighed_turn a b p =
     identity (pp.w ⊗ turn_poly pa pb pp)
     ((pa.x ⊗ pp.w ⊖ pp.x ⊗ pa.w) ⊗ rise_p pp pb ⊖ (pb.x ⊗ pp.w ⊖ pp.x ⊗ pb.w) ⊗ rise_p pp pa) (a then b then p then []) refl
 
--- both ends left of the point: an edge that goes up has it on the right
-right_of_up : (a b p : Point) → shift p a <ℤ pos 0 → shift p b <ℤ pos 0 → rise p a ≤ℤ pos 0 → pos 0 <ℤ rise p b → turn a b p <ℤ pos 0
-right_of_up a b p left_a left_b low high =
-    neg_factor p.w (turn a b p) p.heavy
-    (omega (arith, linear, weighed_turn a b p, neg-*-pos left_a high, nonpos-*-nonpos (weak left_b) low))
-  where
-    weak : {z : ℤ} → z <ℤ pos 0 → z ≤ℤ pos 0
-    weak h = omega (arith, linear, h)
-
-right_of_down : (a b p : Point) → shift p a <ℤ pos 0 → shift p b <ℤ pos 0 → pos 0 <ℤ rise p a → rise p b ≤ℤ pos 0 → pos 0 <ℤ turn a b p
-right_of_down a b p left_a left_b high low =
+-- both ends on one side of the point: an edge that goes up has it on the other
+turn_of_up : (s : Bool) (a b p : Point) → HasSign s (shift p a) → HasSign s (shift p b) → rise p a ≤ℤ pos 0 → pos 0 <ℤ rise p b
+    → HasSign s (turn a b p)
+turn_of_up true a b p right_a right_b low high =
     pos_factor p.w (turn a b p) p.heavy
-    (omega (arith, linear, weighed_turn a b p, neg-*-pos left_b high, nonpos-*-nonpos (weak left_a) low))
-  where
-    weak : {z : ℤ} → z <ℤ pos 0 → z ≤ℤ pos 0
-    weak h = omega (arith, linear, h)
-
--- both ends right of it: an edge that goes up has it on the left
-left_of_up : (a b p : Point) → pos 0 <ℤ shift p a → pos 0 <ℤ shift p b → rise p a ≤ℤ pos 0 → pos 0 <ℤ rise p b → pos 0 <ℤ turn a b p
-left_of_up a b p right_a right_b low high =
-    pos_factor p.w (turn a b p) p.heavy
-    (omega (arith, linear, weighed_turn a b p, pos-*-pos right_a high, nonneg-*-nonpos (weak right_b) low))
-  where
-    weak : {z : ℤ} → pos 0 <ℤ z → pos 0 ≤ℤ z
-    weak h = omega (arith, linear, h)
-
-left_of_down : (a b p : Point) → pos 0 <ℤ shift p a → pos 0 <ℤ shift p b → pos 0 <ℤ rise p a → rise p b ≤ℤ pos 0 → turn a b p <ℤ pos 0
-left_of_down a b p right_a right_b high low =
+    (omega (arith, linear, weighed_turn a b p, pos-*-pos right_a high, nonneg-*-nonpos (<ℤ_weaken right_b) low))
+turn_of_up false a b p left_a left_b low high =
     neg_factor p.w (turn a b p) p.heavy
-    (omega (arith, linear, weighed_turn a b p, pos-*-pos right_b high, nonneg-*-nonpos (weak right_a) low))
-  where
-    weak : {z : ℤ} → pos 0 <ℤ z → pos 0 ≤ℤ z
-    weak h = omega (arith, linear, h)
+    (omega (arith, linear, weighed_turn a b p, neg-*-pos left_a high, nonpos-*-nonpos (<ℤ_weaken left_b) low))
 
--- so the ray to the right doesn't cross an edge that is left of the point
-crosses_left : (e : Seg) (p : Point) → shift p (point_of e.a) <ℤ pos 0 → shift p (point_of e.b) <ℤ pos 0 → crosses p e ≡ false
-crosses_left e p left_a left_b =
-    go (is_low p (point_of e.a)) (is_low p (point_of e.b)) (tells_low p (point_of e.a)) (tells_low p (point_of e.b))
-  where
-    go : (l m : Bool) → Low l (rise p (point_of e.a)) → Low m (rise p (point_of e.b)) → crosses_from l m (turn (point_of e.a) (point_of e.b) p) ≡ false
-    go true true h k = refl
-    go true false h k =
-        crosses_by_sign true false false (turn (point_of e.a) (point_of e.b) p) (right_of_up (point_of e.a) (point_of e.b) p left_a left_b h k)
-    go false true h k =
-        crosses_by_sign false true true (turn (point_of e.a) (point_of e.b) p) (right_of_down (point_of e.a) (point_of e.b) p left_a left_b h k)
-    go false false h k = refl
+-- and one that goes down, on the same side
+turn_of_down : (s : Bool) (a b p : Point) → HasSign s (shift p a) → HasSign s (shift p b) → pos 0 <ℤ rise p a → rise p b ≤ℤ pos 0
+    → HasSign (not s) (turn a b p)
+turn_of_down true a b p at_a at_b high low = omega (arith, linear, turn_swap b a p, turn_of_up true b a p at_b at_a low high)
+turn_of_down false a b p at_a at_b high low = omega (arith, linear, turn_swap b a p, turn_of_up false b a p at_b at_a low high)
 
--- and of those on the right it crosses each that has one end below the ray
-crosses_right : (e : Seg) (p : Point) → pos 0 <ℤ shift p (point_of e.a) → pos 0 <ℤ shift p (point_of e.b)
-    → crosses p e ≡ differ (is_low p (point_of e.a)) (is_low p (point_of e.b))
-crosses_right e p right_a right_b =
+-- so the ray to the right crosses none of the edges that are left of the point, and of those on the right each that has one end below it
+crosses_beyond : (s : Bool) (e : Seg) (p : Point) → HasSign s (shift p (point_of e.a)) → HasSign s (shift p (point_of e.b))
+    → crosses p e ≡ (differ (is_low p (point_of e.a)) (is_low p (point_of e.b)) && s)
+crosses_beyond s e p at_a at_b =
     go (is_low p (point_of e.a)) (is_low p (point_of e.b)) (tells_low p (point_of e.a)) (tells_low p (point_of e.b))
   where
     go : (l m : Bool) → Low l (rise p (point_of e.a)) → Low m (rise p (point_of e.b))
-        → crosses_from l m (turn (point_of e.a) (point_of e.b) p) ≡ differ l m
+        → crosses_from l m (turn (point_of e.a) (point_of e.b) p) ≡ (differ l m && s)
     go true true h k = refl
     go true false h k =
-        crosses_by_sign true false true (turn (point_of e.a) (point_of e.b) p) (left_of_up (point_of e.a) (point_of e.b) p right_a right_b h k)
+        crosses_by_sign true false s (turn (point_of e.a) (point_of e.b) p) (turn_of_up s (point_of e.a) (point_of e.b) p at_a at_b h k)
     go false true h k =
-        crosses_by_sign false true false (turn (point_of e.a) (point_of e.b) p) (left_of_down (point_of e.a) (point_of e.b) p right_a right_b h k)
+        crosses_by_sign false true (not s) (turn (point_of e.a) (point_of e.b) p)
+        (turn_of_down s (point_of e.a) (point_of e.b) p at_a at_b h k)
+        ∙ not-not s
     go false false h k = refl
 
 -- an edge below the ray, or above it
@@ -171,10 +143,12 @@ pub inside_in_box : (box : Window) (ring : List Pt) → IsClosed ring → IsRoun
     → IsInWindow box p
 inside_in_box box ring closed round p inside = record {
   left = not_<ℤ p.x (box.low_x *ℤ p.w) (λ beyond. even (odd_changes p box
-      (λ e h. crosses_right e p (past_left e.a h.start beyond) (past_left e.b h.end beyond)) (edges_of ring) ends
+      (λ e h. crosses_beyond true e p (past_left e.a h.start beyond) (past_left e.b h.end beyond)
+      ∙ and-true (differ (is_low p (point_of e.a)) (is_low p (point_of e.b)))) (edges_of ring) ends
       ∙ closed_change (λ v. is_low p (point_of v)) ring closed));
   right = not_<ℤ (box.high_x *ℤ p.w) p.x (λ beyond. even (none_odd p box
-      (λ e h. crosses_left e p (past_right e.a h.start beyond) (past_right e.b h.end beyond)) (edges_of ring) ends));
+      (λ e h. crosses_beyond false e p (past_right e.a h.start beyond) (past_right e.b h.end beyond)
+      ∙ and-false (differ (is_low p (point_of e.a)) (is_low p (point_of e.b)))) (edges_of ring) ends));
   bottom = not_<ℤ p.y (box.low_y *ℤ p.w) (λ beyond. even (none_odd p box
       (λ e h. crosses_level e p false (past_bottom e.a h.start beyond) (past_bottom e.b h.end beyond)) (edges_of ring) ends));
   top = not_<ℤ (box.high_y *ℤ p.w) p.y (λ beyond. even (none_odd p box
@@ -214,13 +188,7 @@ boxes_meet box other_box one other closed other_closed round other_round p insid
 pub hole_boxes_meet : (holes : List (List Pt)) (boxes : List Window) → AreRound IsRoundRing holes boxes → All IsRingShaped holes → (place k : ℕ)
     (hole one : List Pt) → IsAtPlace holes place hole → IsAtPlace holes k one → AreBothInside one hole → MeetAt boxes k place
 hole_boxes_meet holes boxes round shaped place k hole one hole_is one_is both =
-    let here = round_at IsRoundRing holes boxes round k one one_is in
-    let beside = round_at IsRoundRing holes boxes round place hole hole_is in
-    record {
-      box = here.box;
-      beside = beside.box;
-      box_is = here.box_is;
-      beside_is = beside.box_is;
-      common = boxes_meet here.box beside.box one hole (all_at IsRingShaped holes k one shaped one_is).closed
-          (all_at IsRingShaped holes place hole shaped hole_is).closed here.round beside.round both.p both.in_one both.in_other;
-    }
+    let closed = (all_at IsRingShaped holes k one shaped one_is).closed in
+    let other_closed = (all_at IsRingShaped holes place hole shaped hole_is).closed in
+    meet_at IsRoundRing holes boxes round place k hole one hole_is one_is (λ box beside here there.
+    boxes_meet box beside one hole closed other_closed here there both.p both.in_one both.in_other)

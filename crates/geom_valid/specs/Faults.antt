@@ -41,6 +41,19 @@ pub record IsFirstAt (f : Figure) (place : ℕ) (which : InvalidKind) : Type 0 w
   pub fails : Fails f place (clause_of which)
   pub first : IsSoundUpTo f place (rank_of (clause_of which))
 
+-- The area fails no clause that is tested before one of this rank, in whatever figure it stands.
+abbrev pub IsAreaSoundUpTo : Area → ℕ → Type 0
+IsAreaSoundUpTo area rank = (f : Figure) (place : ℕ) → IsAtPlace f.areas place area → IsSoundUpTo f place rank
+
+-- This is the first clause that the area fails, in whatever figure it stands.
+abbrev pub IsFirstOfArea : Area → InvalidKind → Type 0
+IsFirstOfArea area which = (f : Figure) (place : ℕ) → IsAtPlace f.areas place area → IsFirstAt f place which
+
+-- What the tests before one of this rank answered: the area where it fails none of these clauses, or else the first one that it fails.
+abbrev pub IsTestedUpTo : Area → ℕ → Result Area InvalidKind → Type 0
+IsTestedUpTo area rank (Ok read) = (read ≡ area) × IsAreaSoundUpTo area rank
+IsTestedUpTo area rank (Err which) = IsFirstOfArea area which
+
 -- The first fault of a figure, with the number of its area counted from 1.
 pub record IsFirstFaultOf (f : Figure) (which : InvalidKind) (element : ℕ) : Type 0 where
   pub place : ℕ

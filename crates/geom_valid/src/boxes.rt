@@ -15,6 +15,7 @@ const NOWHERE: Window = Window {
 };
 
 /// The boxes round rings.
+#[tactic(auto, using(crate::proofs::NearPlaces::round_none, crate::proofs::NearPlaces::round_all))]
 pub(crate) fn ring_boxes(alloc: Global, rings: &[Path]) -> Result<BoxList, NoMemory>
     ensures round { IfOk result (AreRound IsRoundRing rings.now) }
 {
@@ -26,6 +27,7 @@ pub(crate) fn ring_boxes(alloc: Global, rings: &[Path]) -> Result<BoxList, NoMem
 }
 
 /// The boxes round areas.
+#[tactic(auto, using(crate::proofs::NearPlaces::round_none, crate::proofs::NearPlaces::round_all))]
 pub(crate) fn area_boxes(alloc: Global, areas: &[Area]) -> Result<BoxList, NoMemory>
     ensures round { IfOk result (AreRound IsRoundArea areas.now) }
 {

@@ -57,6 +57,7 @@ impl<'a> Disc<'a> {
     }
 
     /// Whether some point is inside this hole and not inside the shell.
+    #[tactic(auto, using(valid_laws::proofs::Clauses::OverAllPoints::swapped))]
     pub(crate) fn leaves(&self, alloc: Global, shell: &Disc) -> Result<bool, NoMemory>
         requires unshared { ¬ EdgesShareSegment (edges_of shell.now) (edges_of self.now) }
         ensures leaves { IfOk result (λ b. IsTrue b ↔ LeavesShell shell.now self.now) }
@@ -65,6 +66,7 @@ impl<'a> Disc<'a> {
     }
 
     /// Whether some point is inside both rings.
+    #[tactic(auto, using(valid_laws::proofs::Clauses::OverAllPoints::swapped))]
     pub(crate) fn overlaps(&self, alloc: Global, other: &Disc) -> Result<bool, NoMemory>
         requires unshared { ¬ EdgesShareSegment (edges_of self.now) (edges_of other.now) }
         ensures overlaps { IfOk result (λ b. IsTrue b ↔ AreBothInside self.now other.now) }

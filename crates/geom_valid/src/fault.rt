@@ -1,18 +1,18 @@
-ghost use Rattle.std.specs.Prelude.{◌<◌, length, IfErr, IfNone, IfOk, IfSome, OnOk};
+ghost use Rattle.std.specs.Prelude.{◌<◌, ◌≤◌, length, IfErr, IfNone, IfOk, IfSome, OnOk};
 ghost use Rattle.geom_valid.specs.Boxes.{AreRound, IsRoundArea};
-ghost use Rattle.geom_valid.specs.Faults.{AreFirstAreas, IsFirstAt, IsFirstFaultOf, IsSoundAt};
-ghost use Rattle.point_set.specs.Shape.{IsWellShaped};
+ghost use Rattle.geom_valid.specs.Faults.{AreFirstAreas, IsFirstAt, IsFirstFaultOf, IsSoundAt, IsTestedUpTo};
+ghost use Rattle.point_set.specs.Shape.{IsAreaShaped, IsWellShaped, positions_of_area};
 ghost use Rattle.point_set.specs.Validity.{IsAtPlace, IsValid};
 
 use crate::boxes::area_boxes;
 use crate::clauses::{has_ring_that_crosses, has_ring_with_too_few};
-use crate::elements::{overlaps_earlier, shares_with_earlier};
+use crate::elements::{Common, has_common_with_earlier};
 use crate::kinds::{Fault, InvalidKind};
 use crate::near_boxes::NearBoxes;
 use crate::ring_set::RingSet;
 use crate::sound_area::SoundArea;
 use plane_exact::{ItemList, NoMemory};
-use point_set::Figure;
+use point_set::{Area, Figure};
 use ring_faults::{has_cycle, rings_share};
 use std::alloc::Global;
 
@@ -53,16 +53,29 @@ fn sound_at<'a>(
     ensures area { IfOk result (λ found. IfOk found (λ area. IsAtPlace f.now.areas place area)) }
 {
     let area = f.areas.at(place);
-    if has_ring_with_too_few(area) {
-        return Ok(Err(InvalidKind::TooFewPoints));
+    let sound = match sound_alone(alloc, area)? {
+        Ok(sound) => sound,
+        Err(kind) => return Ok(Err(kind)),
+    };
+    if has_common_with_earlier(alloc, f, place, boxes, &sound, earlier, Common::Segment)? {
+        return Ok(Err(InvalidKind::ElementsShareEdge));
     }
-    if has_ring_that_crosses(alloc, area)? {
-        return Ok(Err(InvalidKind::RingCross));
+    if has_common_with_earlier(alloc, f, place, boxes, &sound, earlier, Common::Interior)? {
+        return Ok(Err(InvalidKind::ElementsOverlap));
     }
-    if rings_share(alloc, area)? {
-        return Ok(Err(InvalidKind::RingsShareEdge));
-    }
-    let rings = RingSet::of(alloc, area)?;
+    Ok(Ok(sound))
+}
+
+/// An area with its rings and edges, or else the first clause on one area that it fails.
+fn sound_alone(alloc: Global, area: &Area) -> Result<Result<SoundArea, InvalidKind>, NoMemory>
+    requires few { positions_of_area area.now ≤ 1048576 }
+    requires shaped { IsAreaShaped area.now }
+    ensures tested { IfOk result (IsTestedUpTo area.now 6) }
+{
+    let rings = match sound_rings(alloc, area)? {
+        Ok(rings) => rings,
+        Err(kind) => return Ok(Err(kind)),
+    };
     if rings.has_hole_outside(alloc)? {
         return Ok(Err(InvalidKind::HoleOutside));
     }
@@ -72,12 +85,23 @@ fn sound_at<'a>(
     if has_cycle(alloc, area)? {
         return Ok(Err(InvalidKind::Disconnected));
     }
-    let sound = SoundArea::of(alloc, rings)?;
-    if shares_with_earlier(alloc, f, place, boxes, &sound, earlier)? {
-        return Ok(Err(InvalidKind::ElementsShareEdge));
+    Ok(Ok(SoundArea::of(alloc, rings)?))
+}
+
+/// The rings of an area, or else the first clause on their edges that it fails.
+fn sound_rings(alloc: Global, area: &Area) -> Result<Result<RingSet, InvalidKind>, NoMemory>
+    requires few { positions_of_area area.now ≤ 1048576 }
+    requires shaped { IsAreaShaped area.now }
+    ensures tested { IfOk result (IsTestedUpTo area.now 3) }
+{
+    if has_ring_with_too_few(area) {
+        return Ok(Err(InvalidKind::TooFewPoints));
     }
-    if overlaps_earlier(alloc, f, place, boxes, &sound, earlier)? {
-        return Ok(Err(InvalidKind::ElementsOverlap));
+    if has_ring_that_crosses(alloc, area)? {
+        return Ok(Err(InvalidKind::RingCross));
     }
-    Ok(Ok(sound))
+    if rings_share(alloc, area)? {
+        return Ok(Err(InvalidKind::RingsShareEdge));
+    }
+    Ok(Ok(RingSet::of(alloc, area)?))
 }

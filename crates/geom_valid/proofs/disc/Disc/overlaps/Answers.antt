@@ -1,10 +1,6 @@
 use Rattle.valid_laws.proofs.Clauses.Laws.{holes_overlap}
-use Rattle.valid_laws.proofs.Clauses.OverAllPoints.{swapped}
 use Rattle.geom_valid.proofs.ByEntering.{by_first, by_second}
 use Rattle.geom_valid.proofs.disc.Disc.overlaps.Goals as goal
-
-pub enters-requires-else-branch-clause-unshared : goal.enters-requires-else-branch-clause-unshared
-enters-requires-else-branch-clause-unshared c = λ h. c.requires.unshared (swapped h)
 
 pub returns-then-branch : goal.returns-then-branch
 returns-then-branch c =
