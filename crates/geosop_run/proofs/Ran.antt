@@ -18,6 +18,7 @@ use Rattle.geosop_run.specs.declared.pairs.PairFault.TheVariants as pair
 use Rattle.geosop_run.specs.declared.sources.SideFault.{SideFault}
 use Rattle.geosop_run.specs.declared.sources.SideFault.TheVariants as fault
 use Rattle.geosop_run.specs.declared.status.Refusal.{Refusal}
+use Rattle.geosop_run.specs.declared.status.Status.{Status}
 use Rattle.geosop_run.specs.declared.status.Status.TheVariants as status
 use Rattle.geosop_line.specs.CommandLine.{IsLine, IsLineFault}
 use Rattle.geosop_run.specs.Asking.{IfNamed, bytes_of, IsAskedOrNot, IsAdmittedFrom, IsReadToEnd, IsRefusedFrom, IsSideFault}
@@ -124,6 +125,11 @@ module _ (run : Run) (command : Config) (is : IsLine run.words command) where
 abbrev fault_in : Result (Unit {0}) PairFault → PairFault
 fault_in (Ok done) = pair.NoMemory
 fault_in (Err found) = found
+
+-- the status of a run that comes to what it tells
+abbrev status_told : Result (Unit {0}) PairFault → Status
+status_told (Ok done) = status.Ok
+status_told (Err found) = status_of_pairs found
 
 abbrev ended_well : Result (Unit {0}) PairFault → Bool
 ended_well (Ok done) = true
@@ -248,15 +254,17 @@ module _ (law : LineHasOneAnswer) (words : List (List ℕ)) (s0 : InputsSeen) (o
                         })
                         (asked_both o) (last_asked o) none_written
 
-                -- by what came of what is told
-                abbrev IsToldAs : Result (Unit {0}) PairFault → Type 0
-                IsToldAs result = IsOutcome (IsTextUnless command.quiet (IsToldOf command.sample command.rule command.query in_a in_b)) result o0 o
+                -- by what came of what is told of figures that are B's
+                abbrev IsToldAs : List Figure → Result (Unit {0}) PairFault → Type 0
+                IsToldAs xs result = IsOutcome (IsTextUnless command.quiet (IsToldOf command.sample command.rule command.query in_a xs)) result o0 o
 
-                pub at_fault : (found : PairFault) → IsToldAs (Err found) → IsRun (ended_in s2 o) (status_of_pairs found)
-                at_fault found (inl told) = at_pairs told.text told.is_text found told.written
-                at_fault found (inr starved) =
+                at_outcome : (result : Result (Unit {0}) PairFault) → IsToldAs in_b result → IsRun (ended_in s2 o) (status_told result)
+                at_outcome (Err found) (inl told) = at_pairs told.text told.is_text found told.written
+                at_outcome (Err found) (inr starved) =
                     subst (λ of. IsRun (ended_in s2 o) (status_of_pairs of)) (sym (ap fault_in starved.wanting)) (at_starved starved.unwritten)
+                at_outcome (Ok done) (inl told) = at_end told.text told.is_text told.written
+                at_outcome (Ok done) (inr starved) = absurd (true≢false (ap ended_well starved.wanting))
 
-                pub at_ok : (done : Unit {0}) → IsToldAs (Ok done) → IsRun (ended_in s2 o) status.Ok
-                at_ok done (inl told) = at_end told.text told.is_text told.written
-                at_ok done (inr starved) = absurd (true≢false (ap ended_well starved.wanting))
+                pub at_told : {xs : List Figure} {result : Result (Unit {0}) PairFault} → xs ≡ in_b → IsToldAs xs result
+                    → IsRun (ended_in s2 o) (status_told result)
+                at_told {result = result} same told = at_outcome result (subst (λ zs. IsToldAs zs result) same told)
