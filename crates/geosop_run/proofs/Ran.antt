@@ -1,6 +1,8 @@
 -- The steps of a run, put together.
 use Rattle.std.proofs.Common.{◌≡◌, ℕ, ◌≤◌, Bool, true, false, List, None, Result, Ok, Err, inl, inr, refl, sym, ap, subst, ◌∙◌}
 use Rattle.std.proofs.lemmas.Bool.{true≢false}
+use Rattle.std.proofs.lemmas.Result.{err_from_is_err_and}
+use Rattle.std.specs.Result.{IsErrAnd}
 use Rattle.std.specs.Io.KnownBytes.{IsAtEnd}
 use Rattle.im_matrix.specs.declared.Which.{Which}
 use Rattle.im_matrix.specs.declared.Which.TheVariants.{A, B}
@@ -121,6 +123,10 @@ module _ (run : Run) (command : Config) (is : IsLine run.words command) where
       inr (record { command = command; is_command = is; holds = record { written = inl unwritten; read_well = h } })
 
 -- ---- what came of what is told
+-- the error that a `?` gives on
+pub given_error : {T E : Type 0} (r : Result T E) {e : E} → IsErrAnd r (λ y. y ≡ e) → r ≡ Err e
+given_error r given = let p = err_from_is_err_and r given in p.1 ∙ ap Err p.2
+
 -- the fault, where there is one
 abbrev fault_in : Result (Unit {0}) PairFault → PairFault
 fault_in (Ok done) = pair.NoMemory
