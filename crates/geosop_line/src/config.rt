@@ -1,4 +1,7 @@
 //! What a command line asks for, and why it may give nothing.
+ghost use Rattle.std.specs.Prelude.{◌≡◌};
+ghost use Rattle.geosop_line.specs.declared.config.LineFault.TheVariants as line;
+
 use geosop_io::Word;
 use plane_exact::NoMemory;
 use point_set::Rule;
@@ -76,10 +79,7 @@ pub enum LineFault {
 }
 
 impl From<UsageFault> for LineFault {
-    ghost use Rattle.std.specs.Prelude.{◌≡◌};
-    ghost use Rattle.geosop_line.specs.declared.config.LineFault.TheVariants.{Usage};
-
-    ghost from_gives = { λ fault e. e ≡ Usage fault };
+    ghost from_gives = { λ fault e. e ≡ line.Usage fault };
 
     fn from(fault: UsageFault) -> LineFault {
         LineFault::Usage(fault)
@@ -87,10 +87,7 @@ impl From<UsageFault> for LineFault {
 }
 
 impl From<NoMemory> for LineFault {
-    ghost use Rattle.std.specs.Prelude.{◌≡◌};
-    ghost use Rattle.geosop_line.specs.declared.config.LineFault.TheVariants.{NoMemory};
-
-    ghost from_gives = { λ _ e. e ≡ NoMemory };
+    ghost from_gives = { λ _ e. e ≡ line.NoMemory };
 
     fn from(_fault: NoMemory) -> LineFault {
         LineFault::NoMemory
@@ -98,10 +95,7 @@ impl From<NoMemory> for LineFault {
 }
 
 impl From<AllocError> for LineFault {
-    ghost use Rattle.std.specs.Prelude.{◌≡◌};
-    ghost use Rattle.geosop_line.specs.declared.config.LineFault.TheVariants.{NoMemory};
-
-    ghost from_gives = { λ _ e. e ≡ NoMemory };
+    ghost from_gives = { λ _ e. e ≡ line.NoMemory };
 
     fn from(_error: AllocError) -> LineFault {
         LineFault::NoMemory

@@ -95,26 +95,21 @@ module _ (scale : ℕ) where
         moved.unread g.invalid.figure g.invalid.«end» g.invalid.reads
 
     -- what two faults of one source share
-    record SameTextFault (i j : ℕ) (kind other : WktKind) (place spot : ℕ) : Type 0 where
+    record SameFault (K : Type 0) (i j : ℕ) (kind other : K) (place spot : ℕ) : Type 0 where
       number : i ≡ j
       same_kind : kind ≡ other
       same_place : place ≡ spot
 
     one_text_fault : (i j : ℕ) (kind other : WktKind) (place spot : ℕ) → IsFaultAt scale bytes i kind place
-        → IsFaultAt scale bytes j other spot → SameTextFault i j kind other place spot
+        → IsFaultAt scale bytes j other spot → SameFault WktKind i j kind other place spot
     one_text_fault i j kind other place spot f g =
         let e = one_end f.before g.before f.at g.at f.geometries (faulty kind place f.fault) g.geometries (faulty other spot g.fault) in
         let same = one_fault scale bytes g.at kind other place spot
         (subst (λ (x : ℕ). FirstFault scale bytes x kind place) e.0 f.fault) g.fault in
         record { number = f.counted ∙ ap (λ n. n + 1) e.1 ∙ sym g.counted; same_kind = same.0; same_place = same.1 }
 
-    record SameShapeFault (i j : ℕ) (kind other : InvalidKind) (element spot : ℕ) : Type 0 where
-      number : i ≡ j
-      same_kind : kind ≡ other
-      same_element : element ≡ spot
-
     one_shape_fault : (i j : ℕ) (kind other : InvalidKind) (element spot : ℕ) → IsShapeFaultAt scale bytes i kind element
-        → IsShapeFaultAt scale bytes j other spot → SameShapeFault i j kind other element spot
+        → IsShapeFaultAt scale bytes j other spot → SameFault InvalidKind i j kind other element spot
     one_shape_fault i j kind other element spot f g =
         let e = one_end f.before g.before f.at g.at f.geometries (invalid kind element f.invalid) g.geometries
         (invalid other spot g.invalid) in
@@ -126,7 +121,7 @@ module _ (scale : ℕ) where
         record {
           number = f.counted ∙ ap (λ n. n + 1) e.1 ∙ sym g.counted;
           same_kind = same.0;
-          same_element = same.1 ∙ sym last.fault.counted;
+          same_place = same.1 ∙ sym last.fault.counted;
         }
 
   -- ---- refusals
@@ -154,7 +149,7 @@ module _ (scale : ℕ) where
       absurd (text_no_shape_fault bytes j i other spot kind element k.2 h.2)
   one_refusal side bytes (refusal.Shape s i kind element) (refusal.Shape t j other spot) h k =
       let e = one_shape_fault bytes i j kind other element spot h.2 k.2 in
-      (λ x. refusal.Shape ((h.0 ∙ sym k.0) x) (e.number x) (e.same_kind x) (e.same_element x))
+      (λ x. refusal.Shape ((h.0 ∙ sym k.0) x) (e.number x) (e.same_kind x) (e.same_place x))
 
   pub both_admitted : (a b : List ℕ) (in_a in_b : List Figure) (found : Refusal) → IsAdmitted scale a in_a → IsAdmitted scale b in_b
       → IsFirstRefusal scale a b found → ⊥

@@ -1,6 +1,8 @@
 -- The steps of a run, put together.
 use Rattle.std.proofs.Common.{◌≡◌, ℕ, ◌≤◌, Bool, true, false, List, None, Result, Ok, Err, inl, inr, refl, sym, ap, subst, ◌∙◌}
 use Rattle.std.proofs.lemmas.Bool.{true≢false}
+use Rattle.std.proofs.lemmas.Result.{err_from_is_err_and}
+use Rattle.std.specs.Result.{IsErrAnd}
 use Rattle.std.specs.Io.KnownBytes.{IsAtEnd}
 use Rattle.im_matrix.specs.declared.Which.{Which}
 use Rattle.im_matrix.specs.declared.Which.TheVariants.{A, B}
@@ -18,6 +20,7 @@ use Rattle.geosop_run.specs.declared.pairs.PairFault.TheVariants as pair
 use Rattle.geosop_run.specs.declared.sources.SideFault.{SideFault}
 use Rattle.geosop_run.specs.declared.sources.SideFault.TheVariants as fault
 use Rattle.geosop_run.specs.declared.status.Refusal.{Refusal}
+use Rattle.geosop_run.specs.declared.status.Status.{Status}
 use Rattle.geosop_run.specs.declared.status.Status.TheVariants as status
 use Rattle.geosop_line.specs.CommandLine.{IsLine, IsLineFault}
 use Rattle.geosop_run.specs.Asking.{IfNamed, bytes_of, IsAskedOrNot, IsAdmittedFrom, IsReadToEnd, IsRefusedFrom, IsSideFault}
@@ -120,10 +123,19 @@ module _ (run : Run) (command : Config) (is : IsLine run.words command) where
       inr (record { command = command; is_command = is; holds = record { written = inl unwritten; read_well = h } })
 
 -- ---- what came of what is told
+-- the error that a `?` gives on
+pub given_error : {T E : Type 0} (r : Result T E) {e : E} → IsErrAnd r (λ y. y ≡ e) → r ≡ Err e
+given_error r given = let p = err_from_is_err_and r given in p.1 ∙ ap Err p.2
+
 -- the fault, where there is one
 abbrev fault_in : Result (Unit {0}) PairFault → PairFault
 fault_in (Ok done) = pair.NoMemory
 fault_in (Err found) = found
+
+-- the status of a run that comes to what it tells
+abbrev status_told : Result (Unit {0}) PairFault → Status
+status_told (Ok done) = status.Ok
+status_told (Err found) = status_of_pairs found
 
 abbrev ended_well : Result (Unit {0}) PairFault → Bool
 ended_well (Ok done) = true
@@ -248,15 +260,17 @@ module _ (law : LineHasOneAnswer) (words : List (List ℕ)) (s0 : InputsSeen) (o
                         })
                         (asked_both o) (last_asked o) none_written
 
-                -- by what came of what is told
-                abbrev IsToldAs : Result (Unit {0}) PairFault → Type 0
-                IsToldAs result = IsOutcome (IsTextUnless command.quiet (IsToldOf command.sample command.rule command.query in_a in_b)) result o0 o
+                -- by what came of what is told of figures that are B's
+                abbrev IsToldAs : List Figure → Result (Unit {0}) PairFault → Type 0
+                IsToldAs xs result = IsOutcome (IsTextUnless command.quiet (IsToldOf command.sample command.rule command.query in_a xs)) result o0 o
 
-                pub at_fault : (found : PairFault) → IsToldAs (Err found) → IsRun (ended_in s2 o) (status_of_pairs found)
-                at_fault found (inl told) = at_pairs told.text told.is_text found told.written
-                at_fault found (inr starved) =
+                at_outcome : (result : Result (Unit {0}) PairFault) → IsToldAs in_b result → IsRun (ended_in s2 o) (status_told result)
+                at_outcome (Err found) (inl told) = at_pairs told.text told.is_text found told.written
+                at_outcome (Err found) (inr starved) =
                     subst (λ of. IsRun (ended_in s2 o) (status_of_pairs of)) (sym (ap fault_in starved.wanting)) (at_starved starved.unwritten)
+                at_outcome (Ok done) (inl told) = at_end told.text told.is_text told.written
+                at_outcome (Ok done) (inr starved) = absurd (true≢false (ap ended_well starved.wanting))
 
-                pub at_ok : (done : Unit {0}) → IsToldAs (Ok done) → IsRun (ended_in s2 o) status.Ok
-                at_ok done (inl told) = at_end told.text told.is_text told.written
-                at_ok done (inr starved) = absurd (true≢false (ap ended_well starved.wanting))
+                pub at_told : {xs : List Figure} {result : Result (Unit {0}) PairFault} → xs ≡ in_b → IsToldAs xs result
+                    → IsRun (ended_in s2 o) (status_told result)
+                at_told {result = result} same told = at_outcome result (subst (λ zs. IsToldAs zs result) same told)

@@ -1,5 +1,5 @@
 -- Pairs of sound figures have lines, rows and texts, whatever is asked of them.
-use Rattle.std.proofs.Common.{ℕ, suc, List, [], ◌∷◌, refl, ap, arith}
+use Rattle.std.proofs.Common.{◌≡◌, ℕ, suc, List, [], ◌∷◌, Result, refl, sym, ap, subst, arith}
 use Rattle.std.specs.List.{All, flat_map}
 use Rattle.point_set.specs.declared.figure.Figure.{Figure}
 use Rattle.point_set.specs.declared.rule.Rule.{Rule}
@@ -11,8 +11,10 @@ use Rattle.topo_pred.specs.Values.{value_of}
 use Rattle.relate_core.specs.Answers.{IsAnswerTo}
 use Rattle.pair_batch.specs.Answers.{AreAnswersTo}
 use Rattle.cell_laws.proofs.Cells.Matrix.{decided_by_samples}
+use Rattle.geosop_io.specs.Sink.{SinkSeen}
+use Rattle.geosop_run.specs.declared.pairs.PairFault.{PairFault}
 use Rattle.geosop_run.specs.Sources.{IsSound}
-use Rattle.geosop_run.specs.Text.{line_of, IsLineOf, IsRowOf, IsTextOf}
+use Rattle.geosop_run.specs.Text.{line_of, IsLineOf, IsRowOf, IsTextOf, IsTextWritten, IsWritten}
 use Rattle.geosop_run.proofs.Parts.{some_text}
 
 module _ (rule : Rule) (query : Query) where
@@ -30,7 +32,7 @@ module _ (rule : Rule) (query : Query) where
   line_of_answer a b answer h = record { matrix = h.m; is_matrix = h.of_points; spelled = ap line_of h.answer_is }
 
   -- the lines of the answers of a figure with each of a list are their row
-  pub row_of_answers : (a : Figure) (in_b : List Figure) (answers : List Answer) → AreAnswersTo query a rule in_b answers
+  row_of_answers : (a : Figure) (in_b : List Figure) (answers : List Answer) → AreAnswersTo query a rule in_b answers
       → IsRowOf rule query in_b a (flat_map line_of answers)
   row_of_answers a [] [] h = refl
   row_of_answers a [] (answer ∷ others) h = absurd (omega (arith, h.count))
@@ -42,6 +44,16 @@ module _ (rule : Rule) (query : Query) where
     is_rest = row_of_answers a in_b others
         (record { count = omega (arith, h.count); each = λ place c other at_c at_other. h.each (suc place) c other at_c at_other });
     joined = refl;
+  }
+
+  -- what was written of these lines is of that row
+  pub row_written : {a : Figure} {in_b : List Figure} {answers items : List Answer} {result : Result (Unit {0}) PairFault} {old new : SinkSeen}
+      → items ≡ answers → AreAnswersTo query a rule in_b answers → IsWritten result old new (flat_map line_of items)
+      → IsTextWritten (IsRowOf rule query in_b a) result old new
+  row_written {a = a} {in_b = in_b} {items = items} same are written = record {
+    text = flat_map line_of items;
+    is_text = row_of_answers a in_b items (subst (AreAnswersTo query a rule in_b) (sym same) are);
+    written = written;
   }
 
   -- a figure has a row with each list

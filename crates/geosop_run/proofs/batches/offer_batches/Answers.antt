@@ -1,6 +1,5 @@
 -- Each batch that was written adds to what was taken, and one that wasn't leaves a front of it.
-use Rattle.std.proofs.Common.{◌≡◌, ◌∙◌, List, Err, ap, arith, sym, subst}
-use Rattle.std.specs.List.{All}
+use Rattle.std.proofs.Common.{◌∙◌, List, ap, arith, sym, subst}
 use Rattle.std.specs.Slice.Iter.{chunks_rest, chunks_size}
 use Rattle.std.proofs.lemmas.Result.{err_from_is_err_and}
 use Rattle.point_set.specs.declared.figure.Figure.{Figure}
