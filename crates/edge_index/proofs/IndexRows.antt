@@ -124,7 +124,8 @@ module _ (segs : List Seg) (leaves : List ℕ) (inner : List Window) (index : Is
       let outer = ap window (row_is place row here).1 ∙ window_children place (omega arith) in
       let least = least_joined one other (proper_row (2 * place + 1) (omega arith)) (proper_row (2 * place + 2) (omega arith)) in
       subst (λ (box : Window). IsLeastWindow (IsInEither left.window right.window) box) (sym outer)
-      (subst₂ (λ (l r : Window). IsLeastWindow (IsInEither l r) (join_boxes one other)) (sym (ap window (row_is (2 * place + 1) left first).1))
+      (subst₂ (λ (l r : Window). IsLeastWindow (IsInEither l r) (join_boxes one other))
+      (sym (ap window (row_is (2 * place + 1) left first).1))
       (sym (ap window (row_is (2 * place + 2) right second).1)) least)
 
   -- the item of a leaf's row is that of the leaf, below the number of segments

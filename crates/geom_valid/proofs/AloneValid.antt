@@ -8,7 +8,10 @@ use Rattle.plane_exact.specs.declared.point.Seg.{Seg}
 use Rattle.point_set.specs.declared.figure.Area.{Area}
 use Rattle.point_set.specs.Location.{location, location_by, rings_of}
 use Rattle.point_set.specs.Rings.{edges_of, is_odd, is_on_edges}
-use Rattle.point_set.specs.Validity.{IsAtPlace, Clause, Fails, SomeArea, SomeEarlier, SomeRing, HasTooFewPoints, CrossesItself, RingsShareSegment, HasHoleOutside, HasHolesThatOverlap, HasTouchCycle, AreasShareSegment, AreasOverlap, too_few_points, ring_cross, rings_share_edge, hole_outside, holes_overlap, disconnected, elements_share_edge, elements_overlap}
+use Rattle.point_set.specs.Validity.{IsAtPlace, Clause, Fails, SomeArea, SomeEarlier, SomeRing, HasTooFewPoints, CrossesItself}
+use Rattle.point_set.specs.Validity.{RingsShareSegment, HasHoleOutside, HasHolesThatOverlap, HasTouchCycle, AreasShareSegment, AreasOverlap}
+use Rattle.point_set.specs.Validity.{too_few_points, ring_cross, rings_share_edge, hole_outside, holes_overlap, disconnected}
+use Rattle.point_set.specs.Validity.{elements_share_edge, elements_overlap}
 use Rattle.figure_laws.proofs.Lists.Places.{all_at, some_same}
 use Rattle.valid_laws.specs.Entering.{disc_of}
 use Rattle.valid_laws.proofs.Clauses.OverAllPoints.{disc_location}

@@ -35,7 +35,8 @@ edge_in_box : (box : Window) (area : Area) → IsRoundArea box area → (i : ℕ
     → (p : Point) → IsOnEdge e p → IsInWindow box p
 edge_in_box box area round i e is p on =
     let ends = all_at (AreEndsIn box) (edges_of_rings (rings_of area)) i e (ends_in_rings box (rings_of area) round) is in
-    in_window-mix box e.a e.b p ends.start.left ends.end.left ends.start.right ends.end.right ends.start.bottom ends.end.bottom ends.start.top
+    in_window-mix box e.a e.b p ends.start.left ends.end.left ends.start.right ends.end.right ends.start.bottom ends.end.bottom
+    ends.start.top
     ends.end.top on
 
 -- and the interior ones
@@ -44,7 +45,8 @@ shell_by true shell hole e = cc
 shell_by false true hole e = refl
 shell_by false false hole e = cc
 
-interior_in_box : (box : Window) (area : Area) → IsAreaShaped area → IsRoundArea box area → (p : Point) → location area p ≡ Interior → IsInWindow box p
+interior_in_box :
+    (box : Window) (area : Area) → IsAreaShaped area → IsRoundArea box area → (p : Point) → location area p ≡ Interior → IsInWindow box p
 interior_in_box box area shaped round p interior =
     inside_in_box box area.shell shaped.shell.closed (All-head (IsRoundRing box) area.shell area.holes round) p
     (shell_by (is_on_edges p (edges_of_rings (rings_of area))) (is_inside p area.shell) (list_any (is_inside p) area.holes) interior)

@@ -7,7 +7,8 @@ use Rattle.plane_exact.specs.declared.point.Pt.{Pt}
 use Rattle.point_set.specs.declared.figure.Area.{Area}
 use Rattle.point_set.specs.Location.{rings_of}
 use Rattle.point_set.specs.Rings.{edges_of}
-use Rattle.point_set.specs.Validity.{IsAtPlace, CrossesItself, EdgesShareSegment, RingsShareSegment, HasHoleOutside, HasHolesThatOverlap, AreasShareSegment}
+use Rattle.point_set.specs.Validity.{IsAtPlace, CrossesItself, EdgesShareSegment, RingsShareSegment, HasHoleOutside, HasHolesThatOverlap}
+use Rattle.point_set.specs.Validity.{AreasShareSegment}
 use Rattle.figure_laws.proofs.Edges.Owners.{ring_edge}
 use Rattle.figure_laws.proofs.Lists.Places.{some_same, all_at}
 use Rattle.valid_laws.specs.Entering.{edges_in, Enters, IsSimpleRing, LeavesShell, AreBothInside}
@@ -42,11 +43,13 @@ rings_unshared area unshared i j earlier one other one_is other_is share =
 pub ring_unshared : (area other : Area) → ¬ AreasShareSegment area other → (k : ℕ) (ring : List Pt) → IsAtPlace (rings_of area) k ring
     → ¬ EdgesShareSegment (edges_of ring) (edges_in other)
 ring_unshared area other unshared k ring is share =
-    let place = ring_edge (rings_of area) k share.e (record { way = ring; way_is = is; here = record { place = share.i; is = share.e_is } }) in
+    let place = ring_edge (rings_of area) k share.e
+    (record { way = ring; way_is = is; here = record { place = share.i; is = share.e_is } }) in
     unshared (record { i = place.place; j = share.j; e = share.e; f = share.f; e_is = place.is; f_is = share.f_is; share = share.share })
 
 -- ---- the holes of an area
-pub hole_outside_at : (area : Area) (i : ℕ) (hole : List Pt) → IsAtPlace area.holes i hole → LeavesShell area.shell hole → HasHoleOutside area
+pub hole_outside_at :
+    (area : Area) (i : ℕ) (hole : List Pt) → IsAtPlace area.holes i hole → LeavesShell area.shell hole → HasHoleOutside area
 hole_outside_at area i hole is leaves =
     record { i = i; hole = hole; hole_is = is; p = leaves.p; in_hole = leaves.in_hole; off_shell = leaves.off_shell }
 
@@ -108,15 +111,21 @@ hole_within holes place h = slice_get_within holes place h.other h.other_is
 -- ---- the rings of a sound area
 pub sound_ring : (area : Area) → IsSoundArea area → (k : ℕ) (ring : List Pt) → IsAtPlace (rings_of area) k ring → IsSimpleRing ring
 sound_ring area sound k ring is =
-    record { shaped = ring_shaped area sound.clean.shaped k ring is; simple = all_at (λ w. ¬ CrossesItself w) (rings_of area) k ring sound.clean.simple is }
+    record {
+      shaped = ring_shaped area sound.clean.shaped k ring is;
+      simple = all_at (λ w. ¬ CrossesItself w)
+          (rings_of area) k ring sound.clean.simple is;
+    }
 
 -- an area enters another's inside where its shell does, or a hole
 pub enters_by_shell : (area other : Area) (part : Loc) → Enters (edges_of area.shell) other part → Enters (edges_in area) other part
 enters_by_shell area other part h = (ring_enters area other part).1 (record { place = 0; ring = area.shell; ring_is = refl; is_so = h })
 
-pub enters_by_hole : (area other : Area) (part : Loc) (i : ℕ) (hole : List Pt) → IsAtPlace area.holes i hole → Enters (edges_of hole) other part
+pub enters_by_hole :
+    (area other : Area) (part : Loc) (i : ℕ) (hole : List Pt) → IsAtPlace area.holes i hole → Enters (edges_of hole) other part
     → Enters (edges_in area) other part
-enters_by_hole area other part i hole is h = (ring_enters area other part).1 (record { place = suc i; ring = hole; ring_is = is; is_so = h })
+enters_by_hole area other part i hole is h =
+    (ring_enters area other part).1 (record { place = suc i; ring = hole; ring_is = is; is_so = h })
 
 -- and nowhere else
 pub enters_none : (area other : Area) (part : Loc) → ¬ Enters (edges_of area.shell) other part

@@ -26,7 +26,8 @@ some_near rows row places near h =
 
 -- ---- two lists of rows
 -- a row that was read in the one and has a common segment with some row of the other
-pub rows_share_at : (one other items : List Edge) → items ≡ one → (i : ℕ) (d : Edge) → i < length items → SharesWithRow other (get_or items i d)
+pub rows_share_at :
+    (one other items : List Edge) → items ≡ one → (i : ℕ) (d : Edge) → i < length items → SharesWithRow other (get_or items i d)
     → EdgesShareSegment (segs_of_rows one) (segs_of_rows other)
 rows_share_at one other items same i d below h = record {
   i = i;

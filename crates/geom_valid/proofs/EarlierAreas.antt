@@ -1,11 +1,15 @@
 -- Areas of a figure and the earlier ones of their group.
-use Rattle.std.proofs.Common.{◌≡◌, ◌⊎◌, inl, inr, Bool, true, false, ℕ, suc, ◌+◌, ◌<◌, ◌≤◌, List, [], ◌∷◌, ◌++◌, length, get_or, refl, sym, ◌∙◌, subst, subst₂, ap, arith}
+use Rattle.std.proofs.Common.{◌≡◌, ◌⊎◌, inl, inr, Bool, true, false, ℕ, suc, ◌+◌, ◌<◌, ◌≤◌, List, [], ◌∷◌, ◌++◌, length, get_or, refl, sym}
+use Rattle.std.proofs.Common.{◌∙◌, subst, subst₂, ap, arith}
 use Rattle.std.specs.List.{Contains}
 use Rattle.std.proofs.lemmas.Option.{none-some}
 use Rattle.point_set.specs.declared.figure.Area.{Area}
 use Rattle.point_set.specs.declared.figure.Figure.{Figure}
 use Rattle.point_set.specs.Shape.{IsAreaShaped, positions_of_area}
-use Rattle.point_set.specs.Validity.{IsAtPlace, Clause, Fails, rank_of, SomeArea, SomeEarlier, SomeRing, AreasShareSegment, AreasOverlap, HasTooFewPoints, CrossesItself, RingsShareSegment, HasHoleOutside, HasHolesThatOverlap, HasTouchCycle, too_few_points, ring_cross, rings_share_edge, hole_outside, holes_overlap, disconnected, elements_share_edge, elements_overlap}
+use Rattle.point_set.specs.Validity.{IsAtPlace, Clause, Fails, rank_of, SomeArea, SomeEarlier, SomeRing, AreasShareSegment, AreasOverlap}
+use Rattle.point_set.specs.Validity.{HasTooFewPoints, CrossesItself, RingsShareSegment, HasHoleOutside, HasHolesThatOverlap, HasTouchCycle}
+use Rattle.point_set.specs.Validity.{too_few_points, ring_cross, rings_share_edge, hole_outside, holes_overlap, disconnected}
+use Rattle.point_set.specs.Validity.{elements_share_edge, elements_overlap}
 use Rattle.figure_laws.proofs.Lists.Places.{read_at, some_same}
 use Rattle.geom_valid.specs.Faults.{AreFirstAreas, IsAreaSoundUpTo, IsFirstOfArea, IsSoundAt, IsSoundUpTo, IsTestedUpTo, clause_of}
 use Rattle.geom_valid.specs.declared.kinds.InvalidKind.{InvalidKind}
@@ -26,7 +30,8 @@ first_at f place areas first {before} {other} below is =
 
 -- where it is of the group of the area at a place and so beside it
 pub earlier_at : (f : Figure) (place : ℕ) (areas : List Area) → AreFirstAreas f place areas → {before : ℕ} {own area other : Area}
-    → before < place → other ≡ get_or areas before other → IsAtPlace f.areas place own → IsAtPlace f.areas place area → (IsSo : Area → Area → Type 0)
+    → before < place → other ≡ get_or areas before other → IsAtPlace f.areas place own → IsAtPlace f.areas place area
+    → (IsSo : Area → Area → Type 0)
     → (own.group ≡ other.group) × IsSo area other → SomeEarlier f place IsSo
 earlier_at f place areas first {before} {own} {area} {other} below is own_is area_is IsSo so = record {
   area = area;
@@ -129,7 +134,8 @@ sound_from area few shaped sound = record {
 }
 
 -- ---- the tests beside the earlier areas of its group
-pub after_elements_share : (f : Figure) (place : ℕ) → IsSoundUpTo f place 6 → ¬ SomeEarlier f place AreasShareSegment → IsSoundUpTo f place 7
+pub after_elements_share :
+    (f : Figure) (place : ℕ) → IsSoundUpTo f place 6 → ¬ SomeEarlier f place AreasShareSegment → IsSoundUpTo f place 7
 after_elements_share f place before unshared = sound_on f place 6 elements_share_edge refl unshared before
 
 pub after_elements_overlap : (f : Figure) (place : ℕ) → IsSoundUpTo f place 7 → ¬ SomeEarlier f place AreasOverlap → IsSoundAt f place

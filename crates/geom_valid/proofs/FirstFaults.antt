@@ -4,7 +4,9 @@ use Rattle.std.proofs.lemmas.Bool.{cases_eq, cases_order}
 use Rattle.std.proofs.lemmas.Option.{slice_get_within}
 use Rattle.point_set.specs.declared.figure.Area.{Area}
 use Rattle.point_set.specs.declared.figure.Figure.{Figure}
-use Rattle.point_set.specs.Validity.{Clause, IsAtPlace, SomeArea, Fails, rank_of, ComesBefore, IsFirstFault, IsValid, too_few_points, ring_cross, rings_share_edge, hole_outside, holes_overlap, disconnected, elements_share_edge, elements_overlap}
+use Rattle.point_set.specs.Validity.{Clause, IsAtPlace, SomeArea, Fails, rank_of, ComesBefore, IsFirstFault, IsValid, too_few_points}
+use Rattle.point_set.specs.Validity.{ring_cross, rings_share_edge, hole_outside, holes_overlap, disconnected, elements_share_edge}
+use Rattle.point_set.specs.Validity.{elements_overlap}
 use Rattle.figure_laws.proofs.Lists.Places.{some_same}
 use Rattle.geom_valid.specs.declared.kinds.InvalidKind.{InvalidKind}
 use Rattle.geom_valid.specs.declared.kinds.InvalidKind.TheVariants as kind
@@ -85,10 +87,12 @@ sound_at_last f place all clause = all clause (low clause)
     low elements_overlap = omega arith
 
 -- what is said of the area at a place
-pub some_here : (f : Figure) (place : ℕ) (area : Area) (IsSo : Area → Type 0) → IsAtPlace f.areas place area → IsSo area → SomeArea f place IsSo
+pub some_here :
+    (f : Figure) (place : ℕ) (area : Area) (IsSo : Area → Type 0) → IsAtPlace f.areas place area → IsSo area → SomeArea f place IsSo
 some_here f place area IsSo is so = record { area = area; area_is = is; is_so = so }
 
-pub none_here : (f : Figure) (place : ℕ) (area : Area) (IsSo : Area → Type 0) → IsAtPlace f.areas place area → ¬ IsSo area → ¬ SomeArea f place IsSo
+pub none_here :
+    (f : Figure) (place : ℕ) (area : Area) (IsSo : Area → Type 0) → IsAtPlace f.areas place area → ¬ IsSo area → ¬ SomeArea f place IsSo
 none_here f place area IsSo is not some = not (subst IsSo (some_same (sym some.area_is ∙ is)) some.is_so)
 
 -- ---- over all areas

@@ -51,13 +51,15 @@ ring_segs : (owner : Owner) (side : Hand) (edges : List Seg) → segs_in (map (r
 ring_segs owner side [] = refl
 ring_segs owner side (e ∷ edges) = ap (λ rest. e ∷ rest) (ring_segs owner side edges)
 
-ring_owned : (place k : ℕ) (side : Hand) (edges : List Seg) → All (λ row. area_of row.owner ≡ Some place) (map (row_of (Ring place k) side) edges)
+ring_owned :
+    (place k : ℕ) (side : Hand) (edges : List Seg) → All (λ row. area_of row.owner ≡ Some place) (map (row_of (Ring place k) side) edges)
 ring_owned place k side [] = All-nil (λ (row : Edge). area_of row.owner ≡ Some place)
 ring_owned place k side (e ∷ edges) =
     All-cons (λ (row : Edge). area_of row.owner ≡ Some place) (row_of (Ring place k) side e) (map (row_of (Ring place k) side) edges) refl
     (ring_owned place k side edges)
 
-ring_hands : (area : Area) (owner : Owner) (side : Hand) (edges : List Seg) → ((i : ℕ) (e : Seg) → IsAtPlace edges i e → IsAreaHand area e side)
+ring_hands :
+    (area : Area) (owner : Owner) (side : Hand) (edges : List Seg) → ((i : ℕ) (e : Seg) → IsAtPlace edges i e → IsAreaHand area e side)
     → All (λ row. IsAreaHand area row.seg row.hand) (map (row_of owner side) edges)
 ring_hands area owner side [] h = All-nil (λ (row : Edge). IsAreaHand area row.seg row.hand)
 ring_hands area owner side (e ∷ edges) h =
@@ -93,7 +95,8 @@ ring_rows_sound ring shaped owner rows so =
     (proper_way ring shaped.within)
 
 -- a ring of few positions has few edges
-pub ring_rows_few : (ring : List Pt) → IsRingShaped ring → length ring ≤ 1048576 → (owner : Owner) (rows : List Edge) → AddsRing ring owner [] rows
+pub ring_rows_few :
+    (ring : List Pt) → IsRingShaped ring → length ring ≤ 1048576 → (owner : Owner) (rows : List Edge) → AddsRing ring owner [] rows
     → length rows ≤ 1048576
 ring_rows_few ring shaped few owner rows so =
     omega (
@@ -110,7 +113,8 @@ owned_segs : (owner : Owner) (edges : List Seg) (rest : List OwnedEdge) → map 
 owned_segs owner [] rest = refl
 owned_segs owner (e ∷ edges) rest = ap (λ more. e ∷ more) (owned_segs owner edges rest)
 
-area_segs : (place first : ℕ) (rings : List (List Pt)) → map (λ edge. edge.seg) (edges_of_area_rings place first rings) ≡ edges_of_rings rings
+area_segs :
+    (place first : ℕ) (rings : List (List Pt)) → map (λ edge. edge.seg) (edges_of_area_rings place first rings) ≡ edges_of_rings rings
 area_segs place first [] = refl
 area_segs place first (ring ∷ rings) =
     owned_segs (Ring place first) (edges_of ring) (edges_of_area_rings place (first + 1) rings)
@@ -122,7 +126,9 @@ segs_owned (row ∷ rows) = ap (λ rest. row.seg ∷ rest) (segs_owned rows)
 
 pub area_rows_are : (area : Area) (place : ℕ) (rows : List Edge) → AddsArea area place [] rows → AreRowsOf area rows
 area_rows_are area place rows so = record {
-  segs = ap segs_in so.joined ∙ segs_owned so.more ∙ ap (λ (edges : List OwnedEdge). map (λ edge. edge.seg) edges) so.edges ∙ area_segs place 0 (rings_of area);
+  segs =
+      ap segs_in so.joined ∙ segs_owned so.more ∙ ap (λ (edges : List OwnedEdge). map (λ edge. edge.seg) edges) so.edges
+      ∙ area_segs place 0 (rings_of area);
   hands = All-same (λ row. IsAreaHand area row.seg row.hand) rows so.more so.joined so.hands;
 }
 
@@ -130,7 +136,8 @@ pub area_rows_one : (area : Area) (place : ℕ) (rows : List Edge) → AddsArea 
 area_rows_one area place rows so = record {
   place = place;
   owned = All-same (λ row. area_of row.owner ≡ Some place) rows so.more so.joined
-      (All-weaker (λ row. (ring : ℕ) × (row.owner ≡ Ring place ring)) (λ row. area_of row.owner ≡ Some place) (λ row own. ap area_of own.1) so.more
+      (All-weaker (λ row. (ring : ℕ) × (row.owner ≡ Ring place ring)) (λ row. area_of row.owner ≡ Some place)
+      (λ row own. ap area_of own.1) so.more
       (row_owners place 0 (rings_of area) so.more so.edges));
 }
 

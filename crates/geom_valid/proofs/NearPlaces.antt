@@ -1,5 +1,6 @@
 -- Boxes near each other, as an index of their diagonals finds them, and searches among the places of those near one.
-use Rattle.std.proofs.Common.{◌≡◌, ◌⊎◌, inl, inr, ℕ, zero, suc, ◌+◌, ◌<◌, ◌≤◌, pos, List, [], ◌∷◌, ◌++◌, length, get_or, map, ap, refl, sym, ◌∙◌, subst, arith}
+use Rattle.std.proofs.Common.{◌≡◌, ◌⊎◌, inl, inr, ℕ, zero, suc, ◌+◌, ◌<◌, ◌≤◌, pos, List, [], ◌∷◌, ◌++◌, length, get_or, map, ap, refl, sym}
+use Rattle.std.proofs.Common.{◌∙◌, subst, arith}
 use Rattle.std.specs.Prelude.{option_map}
 use Rattle.std.specs.List.{Contains}
 use Rattle.std.proofs.lemmas.Option.{none-some, slice_get-get_or, slice_get-map, slice_get_read, slice_get_within}
@@ -37,27 +38,34 @@ pub record AreRoundBefore {X : Type 0} (IsRound : Window → X → Type 0) (figu
   pub count : length boxes ≡ i
   pub round : (place : ℕ) (box : Window) (figure : X) → IsAtPlace boxes place box → IsAtPlace figures place figure → IsRound box figure
 
-pub round_none : {X : Type 0} (IsRound : Window → X → Type 0) (figures : List X) (boxes : List Window) → boxes ≡ [] → AreRoundBefore IsRound figures boxes 0
+pub round_none :
+    {X : Type 0} (IsRound : Window → X → Type 0) (figures : List X) (boxes : List Window) → boxes ≡ []
+    → AreRoundBefore IsRound figures boxes 0
 round_none IsRound figures boxes empty = record {
   count = ap length empty;
   round = λ place box figure is figure_is. absurd (none-some box (subst (λ (bs : List Window). IsAtPlace bs place box) empty is));
 }
 
-pub round_on : {X : Type 0} (IsRound : Window → X → Type 0) (figures : List X) (boxes more : List Window) (i : ℕ) (box : Window) (figure : X)
+pub round_on :
+    {X : Type 0} (IsRound : Window → X → Type 0) (figures : List X) (boxes more : List Window) (i : ℕ) (box : Window) (figure : X)
     → AreRoundBefore IsRound figures boxes i → more ≡ boxes ++ box ∷ [] → IsAtPlace figures i figure → IsRound box figure
     → AreRoundBefore IsRound figures more (i + 1)
 round_on {X} IsRound figures boxes more i box figure before same figure_is round = record {
   count = ap length same ∙ length_pushed boxes box ∙ ap (λ n. n + 1) before.count;
-  round = λ place b x b_is x_is. at place b x x_is (pushed_at boxes box place b (subst (λ (bs : List Window). IsAtPlace bs place b) same b_is));
+  round =
+      λ place b x b_is x_is. at place b x x_is (pushed_at boxes box place b (subst (λ (bs : List Window). IsAtPlace bs place b) same b_is));
 }
   where
-    at : (place : ℕ) (b : Window) (x : X) → IsAtPlace figures place x → IsAtPlace boxes place b ⊎ ((place ≡ length boxes) × (box ≡ b)) → IsRound b x
+    at :
+        (place : ℕ) (b : Window) (x : X) → IsAtPlace figures place x → IsAtPlace boxes place b ⊎ ((place ≡ length boxes) × (box ≡ b))
+        → IsRound b x
     at place b x x_is (inl b_is) = before.round place b x b_is x_is
     at place b x x_is (inr (last, b_is)) =
         let here : figure ≡ x = some_same (sym figure_is ∙ subst (λ n. IsAtPlace figures n x) (last ∙ before.count) x_is) in
         subst (λ (y : X). IsRound b y) here (subst (λ (c : Window). IsRound c figure) b_is round)
 
-pub round_all : {X : Type 0} (IsRound : Window → X → Type 0) (figures : List X) (boxes : List Window) (i : ℕ) → AreRoundBefore IsRound figures boxes i
+pub round_all :
+    {X : Type 0} (IsRound : Window → X → Type 0) (figures : List X) (boxes : List Window) (i : ℕ) → AreRoundBefore IsRound figures boxes i
     → i ≡ length figures → AreRound IsRound figures boxes
 round_all IsRound figures boxes i before whole = record { count = before.count ∙ whole; round = before.round }
 
@@ -91,7 +99,8 @@ meet_at IsRound figures boxes are place k figure other figure_is other_is common
     }
 
 -- ---- the places that an index of the diagonals finds
-pub near_found : (boxes : List Window) (segs : List Seg) → segs ≡ map diagonal_of boxes → (place : ℕ) (box : Window) → IsAtPlace boxes place box
+pub near_found :
+    (boxes : List Window) (segs : List Seg) → segs ≡ map diagonal_of boxes → (place : ℕ) (box : Window) → IsAtPlace boxes place box
     → (found : List ℕ) → ArePlacesIn box segs found → HoldsNear boxes place found
 near_found boxes segs same place box is found places other meet =
     let own : meet.beside ≡ box = some_same (sym meet.beside_is ∙ is) in

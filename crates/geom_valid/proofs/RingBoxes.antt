@@ -1,13 +1,13 @@
 -- What is inside a ring is in each box that holds the ring's positions: so where two boxes are apart, nothing is inside both.
-use Rattle.std.proofs.Common.{◌≡◌, ℕ, pos, ◌-ℤ◌, ◌*ℤ◌, ◌≤ℤ◌, ◌<ℤ◌, Bool, true, false, not, ◌&&◌, List, [], ◌∷◌, refl, sym, ◌∙◌, arith}
+use Rattle.std.proofs.Common.{◌≡◌, ℕ, pos, ◌*ℤ◌, ◌≤ℤ◌, ◌<ℤ◌, Bool, true, false, not, ◌&&◌, List, [], ◌∷◌, refl, sym, ◌∙◌, arith}
 use Rattle.std.specs.List.{All}
 use Rattle.std.proofs.Math.Bool.{and-false, and-true, not-not}
 use Rattle.std.proofs.lemmas.Bool.{and_parts, false≢true}
 use Rattle.std.proofs.lemmas.List.Elements.{All-nil, All-cons, All-head, All-tail}
 use Rattle.whole_algebra.proofs.Laws.{linear}
-use Rattle.whole_algebra.proofs.Polynomials.{◌⊖◌, ◌⊗◌, identity}
-use Rattle.whole_algebra.proofs.Signs.{not_<ℤ, neg-*-pos, pos-*-pos, nonpos-*-nonpos, nonneg-*-nonpos, pos_factor, neg_factor, scale_≤ℤ_right, <ℤ_weaken}
-use Rattle.plane_laws.proofs.Turns.Turns.{point_at, turn_poly, turn_swap, ◌then◌}
+use Rattle.whole_algebra.proofs.Signs.{not_<ℤ, neg-*-pos, pos-*-pos, nonpos-*-nonpos, nonneg-*-nonpos, pos_factor, neg_factor}
+use Rattle.whole_algebra.proofs.Signs.{scale_≤ℤ_right, <ℤ_weaken}
+use Rattle.plane_laws.proofs.Turns.Turns.{turn_swap}
 use Rattle.plane_laws.specs.Plane.{Point, turn, rise, shift}
 use Rattle.plane_exact.specs.Places.{point_of}
 use Rattle.plane_exact.specs.Windows.{IsInWindow, HasCommonPoint}
@@ -15,13 +15,14 @@ use Rattle.plane_exact.specs.declared.point.Pt.{Pt}
 use Rattle.plane_exact.specs.declared.point.Seg.{Seg}
 use Rattle.plane_exact.specs.declared.window.Window.{Window}
 use Rattle.plane_exact.proofs.Laws.{shift-to_position, rise-to_position}
-use Rattle.point_set.specs.Rings.{is_same_position, edge_before, edges_after, edges_of, is_low, is_on_edges, crosses, crosses_from, differ, is_odd, is_inside}
+use Rattle.point_set.specs.Rings.{is_same_position, edge_before, edges_after, edges_of, is_low, is_on_edges, crosses, crosses_from, differ}
+use Rattle.point_set.specs.Rings.{is_odd, is_inside}
 use Rattle.point_set.specs.Shape.{IsClosed, IsRingShaped}
 use Rattle.point_set.specs.Validity.{IsAtPlace}
 use Rattle.figure_laws.proofs.Lists.Places.{all_at}
-use Rattle.ring_laws.proofs.Parity.Flip.{HasSign, crosses_by_sign}
+use Rattle.ring_laws.proofs.Parity.Flip.{HasSign, crosses_by_sign, turn_by_heights}
 use Rattle.ring_laws.proofs.Parity.Bands.{Low}
-use Rattle.ring_laws.proofs.Parity.OneEdge.{tells_low, rise_p}
+use Rattle.ring_laws.proofs.Parity.OneEdge.{tells_low}
 use Rattle.ring_laws.proofs.Parity.Ring.{closed_change, is_odd_change}
 use Rattle.valid_laws.specs.Entering.{AreBothInside}
 use Rattle.geom_valid.specs.Boxes.{AreRound, IsInBox, IsRoundRing, MeetAt}
@@ -38,7 +39,8 @@ ends_before : (box : Window) (b : Bool) (p q : Pt) (edges : List Seg) → IsInBo
 ends_before box true p q edges hp hq h = h
 ends_before box false p q edges hp hq h = All-cons (AreEndsIn box) (record { a = p; b = q }) edges (record { start = hp; end = hq }) h
 
-ends_after : (box : Window) (p : Pt) (others : List Pt) → IsInBox box p → IsRoundRing box others → All (AreEndsIn box) (edges_after p others)
+ends_after :
+    (box : Window) (p : Pt) (others : List Pt) → IsInBox box p → IsRoundRing box others → All (AreEndsIn box) (edges_after p others)
 ends_after box p [] hp h = All-nil (AreEndsIn box)
 ends_after box p (q ∷ others) hp h =
     let hq = All-head (IsInBox box) q others h in
@@ -49,26 +51,15 @@ pub ends_in : (box : Window) (ring : List Pt) → IsRoundRing box ring → All (
 ends_in box [] h = All-nil (AreEndsIn box)
 ends_in box (p ∷ others) h = ends_after box p others (All-head (IsInBox box) p others h) (All-tail (IsInBox box) p others h)
 
--- ---- a ray from outside the box
--- the turn along an edge by the distances of its ends
-weighed_turn : (a b p : Point) → p.w *ℤ turn a b p ≡ (shift p a *ℤ rise p b) -ℤ (shift p b *ℤ rise p a)
-unfolding turn rise shift
-weighed_turn a b p =
-    let pa = point_at 0 in
-    let pb = point_at 3 in
-    let pp = point_at 6 in
-    identity (pp.w ⊗ turn_poly pa pb pp)
-    ((pa.x ⊗ pp.w ⊖ pp.x ⊗ pa.w) ⊗ rise_p pp pb ⊖ (pb.x ⊗ pp.w ⊖ pp.x ⊗ pb.w) ⊗ rise_p pp pa) (a then b then p then []) refl
-
 -- both ends on one side of the point: an edge that goes up has it on the other
 turn_of_up : (s : Bool) (a b p : Point) → HasSign s (shift p a) → HasSign s (shift p b) → rise p a ≤ℤ pos 0 → pos 0 <ℤ rise p b
     → HasSign s (turn a b p)
 turn_of_up true a b p right_a right_b low high =
     pos_factor p.w (turn a b p) p.heavy
-    (omega (arith, linear, weighed_turn a b p, pos-*-pos right_a high, nonneg-*-nonpos (<ℤ_weaken right_b) low))
+    (omega (arith, linear, turn_by_heights a b p, pos-*-pos right_a high, nonneg-*-nonpos (<ℤ_weaken right_b) low))
 turn_of_up false a b p left_a left_b low high =
     neg_factor p.w (turn a b p) p.heavy
-    (omega (arith, linear, weighed_turn a b p, neg-*-pos left_a high, nonpos-*-nonpos (<ℤ_weaken left_b) low))
+    (omega (arith, linear, turn_by_heights a b p, neg-*-pos left_a high, nonpos-*-nonpos (<ℤ_weaken left_b) low))
 
 -- and one that goes down, on the same side
 turn_of_down : (s : Bool) (a b p : Point) → HasSign s (shift p a) → HasSign s (shift p b) → pos 0 <ℤ rise p a → rise p b ≤ℤ pos 0
@@ -176,7 +167,8 @@ inside_in_box box ring closed round p inside = record {
         low_true p (point_of v) (omega (arith, linear, rise-to_position p v, beyond, scale_≤ℤ_right (<ℤ_weaken p.heavy) h.top))
 
 -- nothing is inside two rings whose boxes are apart
-pub boxes_meet : (box other_box : Window) (one other : List Pt) → IsClosed one → IsClosed other → IsRoundRing box one → IsRoundRing other_box other
+pub boxes_meet :
+    (box other_box : Window) (one other : List Pt) → IsClosed one → IsClosed other → IsRoundRing box one → IsRoundRing other_box other
     → (p : Point) → is_inside p one ≡ true → is_inside p other ≡ true → HasCommonPoint box other_box
 boxes_meet box other_box one other closed other_closed round other_round p inside other_inside = record {
   point = p;
@@ -185,7 +177,8 @@ boxes_meet box other_box one other closed other_closed round other_round p insid
 }
 
 -- the boxes of holes that overlap meet
-pub hole_boxes_meet : (holes : List (List Pt)) (boxes : List Window) → AreRound IsRoundRing holes boxes → All IsRingShaped holes → (place k : ℕ)
+pub hole_boxes_meet :
+    (holes : List (List Pt)) (boxes : List Window) → AreRound IsRoundRing holes boxes → All IsRingShaped holes → (place k : ℕ)
     (hole one : List Pt) → IsAtPlace holes place hole → IsAtPlace holes k one → AreBothInside one hole → MeetAt boxes k place
 hole_boxes_meet holes boxes round shaped place k hole one hole_is one_is both =
     let closed = (all_at IsRingShaped holes k one shaped one_is).closed in

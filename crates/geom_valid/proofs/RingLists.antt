@@ -41,7 +41,8 @@ pub all_first : {X : Type 0} (IsSo : X → Type 0) (xs : List X) → AllBefore I
 all_first IsSo xs k x below is = absurd (omega (arith, below))
 
 -- and the next one too, of which all may be known in another way by then
-pub all_on : {X : Type 0} (IsSo IsSoNow : X → Type 0) → ((x : X) → IsSo x → IsSoNow x) → (xs : List X) (i : ℕ) (item : X) → AllBefore IsSo xs i
+pub all_on :
+    {X : Type 0} (IsSo IsSoNow : X → Type 0) → ((x : X) → IsSo x → IsSoNow x) → (xs : List X) (i : ℕ) (item : X) → AllBefore IsSo xs i
     → IsAtPlace xs i item → IsSoNow item → AllBefore IsSoNow xs (i + 1)
 all_on {X} IsSo IsSoNow stays xs i item before item_is so k x below is = by_place (cases_eq k i)
   where
@@ -80,7 +81,8 @@ ring_of_hole IsSo area i hole is so = record { place = suc i; ring = hole; ring_
 -- the test of the holes decides where the shell isn't so
 pub ring_by_holes : (IsSo : List Pt → Type 0) (area : Area) (b : Bool) → ¬ IsSo area.shell → IsTrue b ↔ Any IsSo area.holes
     → IsTrue b ↔ SomeRing IsSo area
-ring_by_holes IsSo area b shell tells = (λ true. from_any (tells.0 true), λ some. tells.1 (to_any some.place some.ring some.ring_is some.is_so))
+ring_by_holes IsSo area b shell tells =
+    (λ true. from_any (tells.0 true), λ some. tells.1 (to_any some.place some.ring some.ring_is some.is_so))
   where
     from_any : Any IsSo area.holes → SomeRing IsSo area
     from_any any =
@@ -92,6 +94,7 @@ ring_by_holes IsSo area b shell tells = (λ true. from_any (tells.0 true), λ so
         (place, ring, slice_get_within area.holes place ring is, get_or_from_slice_get area.holes place ring ring is, so)
 
 -- each ring has a ring's shape
-pub ring_shaped : (area : Area) → IsAreaShaped area → (place : ℕ) (ring : List Pt) → IsAtPlace (rings_of area) place ring → IsRingShaped ring
+pub ring_shaped :
+    (area : Area) → IsAreaShaped area → (place : ℕ) (ring : List Pt) → IsAtPlace (rings_of area) place ring → IsRingShaped ring
 ring_shaped area shaped zero ring is = subst IsRingShaped (some_same is) shaped.shell
 ring_shaped area shaped (suc place) ring is = all_at IsRingShaped area.holes place ring shaped.holes is

@@ -13,7 +13,8 @@ use Rattle.geom_valid.proofs.RingLists.{AllBefore, all_at_last, all_first, all_o
 
 -- a box is within itself
 pub within_itself : (box : Window) → IsWithin box box
-within_itself box = record { left = omega (arith, linear); right = omega (arith, linear); bottom = omega (arith, linear); top = omega (arith, linear) }
+within_itself box =
+    record { left = omega (arith, linear); right = omega (arith, linear); bottom = omega (arith, linear); top = omega (arith, linear) }
 
 -- and within a box round a box that it is within
 pub within_wider : (inner middle outer : Window) → IsWithin inner middle → IsWithin middle outer → IsWithin inner outer
@@ -55,7 +56,8 @@ round_next inner around more ring i p before is within there least = record {
   least = λ outer inside round. least outer (before.least outer inside round) (all_at (IsInBox outer) ring i p round is);
 }
 
-pub round_last : (inner around : Window) (ring : List Pt) (i : ℕ) → length ring ≤ i → IsRoundSoFar inner around ring i → IsRoundRing around ring
+pub round_last :
+    (inner around : Window) (ring : List Pt) (i : ℕ) → length ring ≤ i → IsRoundSoFar inner around ring i → IsRoundRing around ring
 round_last inner around ring i past before = all_at_last (IsInBox around) ring i before.held past
 
 -- ---- a box that is widened along the rings of an area

@@ -2,7 +2,8 @@
 use Rattle.std.specs.Prelude.{◌≡◌, ℕ, ◌+◌, ◌<◌, List, length, Result, Ok, Err}
 use Rattle.point_set.specs.declared.figure.Area.{Area}
 use Rattle.point_set.specs.declared.figure.Figure.{Figure}
-use Rattle.point_set.specs.Validity.{IsAtPlace, Clause, rank_of, Fails, IsFirstFault, too_few_points, ring_cross, rings_share_edge, hole_outside, holes_overlap, disconnected, elements_share_edge, elements_overlap}
+use Rattle.point_set.specs.Validity.{IsAtPlace, Clause, rank_of, Fails, IsFirstFault, too_few_points, ring_cross, rings_share_edge}
+use Rattle.point_set.specs.Validity.{hole_outside, holes_overlap, disconnected, elements_share_edge, elements_overlap}
 use Rattle.geom_valid.specs.declared.kinds.AdmitFault.{AdmitFault}
 use Rattle.geom_valid.specs.declared.kinds.AdmitFault.TheVariants as fault
 use Rattle.geom_valid.specs.declared.kinds.InvalidKind.{InvalidKind}

@@ -13,7 +13,8 @@ use Rattle.geosop_run.specs.declared.status.Status.TheVariants as status
 use Rattle.geosop_line.specs.CommandLine.{IsLine, IsFirstFault, ConfigIsOne, FirstFaultIsOne, AConfigIsNoFault}
 use Rattle.geosop_run.specs.Asking.{side_of}
 use Rattle.geosop_run.specs.Sources.{IsRefusalOf, IsAdmitted, IsFirstRefusal}
-use Rattle.geosop_run.specs.Run.{Run, HasBytes, HasText, HasComeTo, IsUnwritten, IsUnbegun, OfCommand, SaysOf, IsAskedRightly, IsLastAsked, IsUsageOrStopped, IsRefusedOrStopped, IsRun}
+use Rattle.geosop_run.specs.Run.{Run, HasBytes, HasText, HasComeTo, IsUnwritten, IsUnbegun, OfCommand, SaysOf, IsAskedRightly, IsLastAsked}
+use Rattle.geosop_run.specs.Run.{IsUsageOrStopped, IsRefusedOrStopped, IsRun}
 use Rattle.geosop_run.proofs.OneAnswer.{both_admitted, one_refusal, one_first_refusal, admitted_not_refused}
 
 -- a count with one more has risen

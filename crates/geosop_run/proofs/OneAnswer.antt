@@ -12,7 +12,8 @@ use Rattle.geom_valid.specs.Faults.{IsFirstFaultOf}
 use Rattle.geom_valid.proofs.Laws.{no_fault, this_fault}
 use Rattle.geosop_run.specs.declared.status.Refusal.{Refusal}
 use Rattle.geosop_run.specs.declared.status.Refusal.TheVariants as refusal
-use Rattle.geosop_run.specs.Sources.{IsGeometryAt, AreGeometries, IsSource, IsFaultAt, IsInvalidAt, IsShapeFaultAt, IsRefusalOf, IsAdmitted, IsFirstRefusal}
+use Rattle.geosop_run.specs.Sources.{IsGeometryAt, AreGeometries, IsSource, IsFaultAt, IsInvalidAt, IsShapeFaultAt, IsRefusalOf, IsAdmitted}
+use Rattle.geosop_run.specs.Sources.{IsFirstRefusal}
 
 module _ (scale : ℕ) where
   module _ (bytes : List ℕ) where

@@ -27,7 +27,8 @@ use Rattle.geosop_run.specs.Asking.{IfNamed, bytes_of, IsAskedOrNot, IsAdmittedF
 use Rattle.geosop_run.specs.Sources.{most_bytes, IsRefusalOf, IsFirstRefusal}
 use Rattle.geosop_run.specs.Statuses.{status_of_words, status_of_side, status_of_pairs}
 use Rattle.geosop_run.specs.Text.{IsOutcome, IsTextUnless, IsToldOf, IsWritten}
-use Rattle.geosop_run.specs.Run.{Run, source_of_side, HasBytes, IsAdmittedAs, IsUnwritten, HasText, HasComeTo, SaysOf, IsAskedRightly, IsLastAsked, IsRun}
+use Rattle.geosop_run.specs.Run.{Run, source_of_side, HasBytes, IsAdmittedAs, IsUnwritten, HasText, HasComeTo, SaysOf, IsAskedRightly}
+use Rattle.geosop_run.specs.Run.{IsLastAsked, IsRun}
 use Rattle.geosop_run.proofs.Completeness.{LineHasOneAnswer, run_of}
 
 -- ---- one side, while the other is read
@@ -158,7 +159,8 @@ module _ (law : LineHasOneAnswer) (words : List (List ℕ)) (s0 : InputsSeen) (o
     none_asked B = inl b_new
 
     pub at_words : (found : LineFault) → IsLineFault words found → IsRun (ended_in s0 o0) (status_of_words found)
-    at_words found h = run_of law (ended_in s0 o0) (status_of_words found) (words_say found h) none_asked (inl b_new) (λ command is quiet. refl)
+    at_words found h =
+        run_of law (ended_in s0 o0) (status_of_words found) (words_say found h) none_asked (inl b_new) (λ command is quiet. refl)
 
     module _ (command : Config) (is : IsLine words command) (s1 : InputsSeen) (others_a : KeepsOthers A s0 s1)
         (asked_a : IsAskedOrNot command.a (s1.asked A))
@@ -247,7 +249,8 @@ module _ (law : LineHasOneAnswer) (words : List (List ℕ)) (s0 : InputsSeen) (o
 
                     at_pairs : (found : PairFault) → IsWritten (Err found) o0 o text → IsRun (ended_in s2 o) (status_of_pairs found)
                     at_pairs found front =
-                        run_of law (ended_in s2 o) (status_of_pairs found) (pairs_say found front) (asked_both o) (last_asked o) none_written
+                        run_of law (ended_in s2 o) (status_of_pairs found) (pairs_say found front) (asked_both o)
+                        (last_asked o) none_written
 
                     -- behind the last
                     at_end : o ≡ after_taking o0 text → IsRun (ended_in s2 o) status.Ok
@@ -262,12 +265,14 @@ module _ (law : LineHasOneAnswer) (words : List (List ℕ)) (s0 : InputsSeen) (o
 
                 -- by what came of what is told of figures that are B's
                 abbrev IsToldAs : List Figure → Result (Unit {0}) PairFault → Type 0
-                IsToldAs xs result = IsOutcome (IsTextUnless command.quiet (IsToldOf command.sample command.rule command.query in_a xs)) result o0 o
+                IsToldAs xs result =
+                    IsOutcome (IsTextUnless command.quiet (IsToldOf command.sample command.rule command.query in_a xs)) result o0 o
 
                 at_outcome : (result : Result (Unit {0}) PairFault) → IsToldAs in_b result → IsRun (ended_in s2 o) (status_told result)
                 at_outcome (Err found) (inl told) = at_pairs told.text told.is_text found told.written
                 at_outcome (Err found) (inr starved) =
-                    subst (λ of. IsRun (ended_in s2 o) (status_of_pairs of)) (sym (ap fault_in starved.wanting)) (at_starved starved.unwritten)
+                    subst (λ of. IsRun (ended_in s2 o) (status_of_pairs of)) (sym (ap fault_in starved.wanting))
+                    (at_starved starved.unwritten)
                 at_outcome (Ok done) (inl told) = at_end told.text told.is_text told.written
                 at_outcome (Ok done) (inr starved) = absurd (true≢false (ap ended_well starved.wanting))
 

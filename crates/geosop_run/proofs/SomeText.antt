@@ -47,7 +47,8 @@ module _ (rule : Rule) (query : Query) where
   }
 
   -- what was written of these lines is of that row
-  pub row_written : {a : Figure} {in_b : List Figure} {answers items : List Answer} {result : Result (Unit {0}) PairFault} {old new : SinkSeen}
+  pub row_written : {a : Figure} {in_b : List Figure} {answers items : List Answer} {result : Result
+      (Unit {0}) PairFault} {old new : SinkSeen}
       → items ≡ answers → AreAnswersTo query a rule in_b answers → IsWritten result old new (flat_map line_of items)
       → IsTextWritten (IsRowOf rule query in_b a) result old new
   row_written {a = a} {in_b = in_b} {items = items} same are written = record {

@@ -4,9 +4,11 @@ use Rattle.std.specs.List.{concat}
 use Rattle.im_matrix.specs.declared.Which.{Which}
 use Rattle.im_matrix.specs.declared.Which.TheVariants.{A, B}
 use Rattle.wkt_text.specs.declared.control.WktKind.{WktKind}
-use Rattle.wkt_text.specs.declared.control.WktKind.TheVariants.{Syntax, UnknownType, NotWhole, TooWide, LongNumber, Ragged, RingOpen, RingShort, LineShort, Deep, TooMany}
+use Rattle.wkt_text.specs.declared.control.WktKind.TheVariants.{Syntax, UnknownType, NotWhole, TooWide, LongNumber, Ragged, RingOpen}
+use Rattle.wkt_text.specs.declared.control.WktKind.TheVariants.{RingShort, LineShort, Deep, TooMany}
 use Rattle.geom_valid.specs.declared.kinds.InvalidKind.{InvalidKind}
-use Rattle.geom_valid.specs.declared.kinds.InvalidKind.TheVariants.{TooFewPoints, RingCross, RingsShareEdge, HoleOutside, HolesOverlap, Disconnected, ElementsShareEdge, ElementsOverlap}
+use Rattle.geom_valid.specs.declared.kinds.InvalidKind.TheVariants.{TooFewPoints, RingCross, RingsShareEdge, HoleOutside, HolesOverlap}
+use Rattle.geom_valid.specs.declared.kinds.InvalidKind.TheVariants.{Disconnected, ElementsShareEdge, ElementsOverlap}
 use Rattle.geosop_line.specs.declared.config.LineFault.{LineFault}
 use Rattle.geosop_line.specs.declared.config.LineFault.TheVariants as words
 use Rattle.geosop_line.specs.declared.config.UsageFault.{UsageFault}

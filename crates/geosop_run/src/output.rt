@@ -1,7 +1,8 @@
 ghost use Rattle.std.specs.Prelude.{◌≡◌, flat_map};
 ghost use Rattle.std.specs.List.{concat};
 ghost use Rattle.geosop_io.specs.Sink.{IsOffered};
-ghost use Rattle.geosop_run.specs.Statuses.{side_name as side_bytes, kind_name as kind_bytes, invalid_name as invalid_bytes, usage_name as usage_bytes, place_of, usage_pieces, refusal_pieces, fault_line};
+ghost use Rattle.geosop_run.specs.Statuses.{side_name as side_bytes, kind_name as kind_bytes, invalid_name as invalid_bytes};
+ghost use Rattle.geosop_run.specs.Statuses.{usage_name as usage_bytes, place_of, usage_pieces, refusal_pieces, fault_line};
 
 use crate::status::{Refusal, Status};
 use geom_valid::InvalidKind;

@@ -97,7 +97,7 @@ flip_tests false false false true true f g h k = refl
 flip_tests false false false true false f g h k = refl
 
 -- ---- no cut where both ends are at most as high as p, or both higher than q
-turn_by_heights : (a b p : Point) → p.w *ℤ turn a b p ≡ (shift p a *ℤ rise p b) -ℤ (shift p b *ℤ rise p a)
+pub turn_by_heights : (a b p : Point) → p.w *ℤ turn a b p ≡ (shift p a *ℤ rise p b) -ℤ (shift p b *ℤ rise p a)
 unfolding turn rise shift
 turn_by_heights a b p =
     let pa = point_at 0 in

@@ -8,7 +8,13 @@ use Rattle.geom_valid.proofs.clauses.has_ring_that_crosses.Goals as goal
 
 pub returns-then-branch : goal.returns-then-branch
 returns-then-branch c =
-    record { crosses = (λ _. ring_of_shell CrossesItself c.args.area.now (c.in_ok-crosses_itself.ensures.crosses.0 c.if-branch.true), λ _. refl) }
+    record {
+      crosses = (
+        λ _. ring_of_shell CrossesItself c.args.area.now
+            (c.in_ok-crosses_itself.ensures.crosses.0 c.if-branch.true),
+        λ _. refl,
+      );
+    }
 
 pub returns-then-branch-2 : goal.returns-then-branch-2
 returns-then-branch-2 c =
@@ -31,8 +37,10 @@ loop-hole-preserved c =
 
 pub returns : goal.returns
 returns c =
-    let none = none_at_last CrossesItself c.as_slice-hole-items.result.now c.loop-hole.hole-index c.loop-hole.invariant c.loop-hole-test.false in
-    let shell : ¬ CrossesItself c.args.area.now.shell = λ h. false≢true (sym c.if-branch.false ∙ c.in_ok-crosses_itself.ensures.crosses.1 h) in
+    let none = none_at_last CrossesItself c.as_slice-hole-items.result.now c.loop-hole.hole-index c.loop-hole.invariant
+    c.loop-hole-test.false in
+    let shell : ¬ CrossesItself c.args.area.now.shell = λ h. false≢true
+    (sym c.if-branch.false ∙ c.in_ok-crosses_itself.ensures.crosses.1 h) in
     let holes : (i : _) (hole : List Pt) → IsAtPlace c.args.area.now.holes i hole → ¬ CrossesItself hole
     = λ i hole is. none i hole (subst (λ (xs : List (List Pt)). IsAtPlace xs i hole) (sym c.as_slice-hole-items.ensures.items) is) in
     record { crosses = (λ e. absurd (false≢true e), λ h. absurd (no_ring_from CrossesItself c.args.area.now shell holes h)) }

@@ -11,7 +11,8 @@ use Rattle.geom_valid.proofs.EarlierAreas.{earlier_at, no_earlier, not_earlier_a
 use Rattle.geom_valid.proofs.NearPlaces.{IsSoEarlier}
 use Rattle.geom_valid.proofs.RingLists.{none_on}
 use Rattle.geom_valid.proofs.elements.has_common_with_earlier.Goals as goal
-use Rattle.geom_valid.proofs.elements.has_common_with_earlier.Goals.{else-before-place-via-then-before-place+in_ok-have_in_group+else-branch, else-before-place-via-else-before-place}
+use Rattle.geom_valid.proofs.elements.has_common_with_earlier.Goals.{else-before-place-via-then-before-place+in_ok-have_in_group+else-branch}
+use Rattle.geom_valid.proofs.elements.has_common_with_earlier.Goals.{else-before-place-via-else-before-place}
 
 pub have_in_group-requires : goal.have_in_group-requires
 have_in_group-requires c =

@@ -7,4 +7,5 @@ use Rattle.geom_valid.proofs.elements.has_common_with_earlier.Given as goal
 
 abbrev pub invariant-loop-other : goal.invariant-loop-other
 invariant-loop-other l =
-    NoneBefore (IsSoEarlier (λ other. (l.group ≡ other.group) × HaveInCommon l.what l.sound other) l.f.areas l.place) l.other-items l.other-index
+    NoneBefore
+    (IsSoEarlier (λ other. (l.group ≡ other.group) × HaveInCommon l.what l.sound other) l.f.areas l.place) l.other-items l.other-index

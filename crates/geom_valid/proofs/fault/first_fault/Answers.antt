@@ -24,7 +24,8 @@ of-requires c =
 
 pub sound_at-requires-clause-boxes : goal.sound_at-requires-clause-boxes
 sound_at-requires-clause-boxes c =
-    subst₂ (λ (areas : List Area) (boxes : List Window). AreRound IsRoundArea areas boxes) c.as_slice.ensures.items (sym c.in_ok-boxes.ensures.boxes)
+    subst₂ (λ (areas : List Area) (boxes : List Window). AreRound IsRoundArea areas boxes) c.as_slice.ensures.items
+    (sym c.in_ok-boxes.ensures.boxes)
     c.in_ok-area_boxes.ensures.round
 
 pub loop-place-init : goal.loop-place-init
@@ -40,13 +41,17 @@ loop-place-preserved c =
     let here : IsSoundAt f place
     = subst (λ (found : Result Area InvalidKind). OnOk found (IsSoundAt f place)) c.in-Ok.is c.in_ok-sound.ensures.sound in
     let at : IsAtPlace f.areas place c.in-Ok.sound
-    = subst (λ (found : Result Area InvalidKind). IfOk found (λ area. IsAtPlace f.areas place area)) c.in-Ok.is c.in_ok-sound.ensures.area in
+    =
+    subst (λ (found : Result Area InvalidKind). IfOk found (λ area. IsAtPlace f.areas place area)) c.in-Ok.is
+    c.in_ok-sound.ensures.area in
     let on = sound_before_on f place c.loop-place.invariant.sound here in
     record {
       sound = λ before below. on before (omega (arith, below));
-      kept = first_on f place c.loop-place.earlier c.push.new.self c.in-Ok.sound c.loop-place.invariant.kept c.in_ok-push-in-Ok.ensures.ok at;
+      kept =
+          first_on f place c.loop-place.earlier c.push.new.self c.in-Ok.sound c.loop-place.invariant.kept c.in_ok-push-in-Ok.ensures.ok at;
     }
 
 pub returns-clause-valid : goal.returns-clause-valid
 returns-clause-valid c =
-    valid_from_sound c.args.f.now c.loop-place.place (omega (arith, c.len-place-end.ensures.length, c.loop-place-test.false)) c.loop-place.invariant.sound
+    valid_from_sound c.args.f.now c.loop-place.place
+    (omega (arith, c.len-place-end.ensures.length, c.loop-place-test.false)) c.loop-place.invariant.sound

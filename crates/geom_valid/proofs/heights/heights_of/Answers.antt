@@ -19,4 +19,5 @@ over-requires-clause-proper c =
     let rows = c.args.rows.now in
     subst (λ (segs : List Seg). All IsEdge segs) (sym c.in_ok-segs.ensures.segs)
     (All-map IsEdge (λ (row : Edge). row.seg) rows
-    (All-weaker IsRowSound (λ row. IsEdge row.seg) (λ row h. record { start = h.start; end = h.end; apart = h.moves }) rows c.requires.sound))
+    (All-weaker IsRowSound (λ row. IsEdge row.seg)
+    (λ row h. record { start = h.start; end = h.end; apart = h.moves }) rows c.requires.sound))

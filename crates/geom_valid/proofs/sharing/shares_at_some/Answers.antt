@@ -14,7 +14,8 @@ loop-place-preserved c =
     let e = c.args.row.now.seg in
     let places = c.as_slice-place-items.result.now in
     let i = c.loop-place.place-index in
-    none_on (SharesAtPlace e c.args.rows.now) places i (get_or places i 0) c.loop-place.invariant (slice_get-get_or places i 0 c.loop-place-test.true)
+    none_on (SharesAtPlace e c.args.rows.now) places i (get_or places i 0) c.loop-place.invariant
+    (slice_get-get_or places i 0 c.loop-place-test.true)
     (λ h. false≢true (sym c.if-share_segment.false ∙ c.share_segment.ensures.share.1
     (subst (λ (row : Edge). ShareSegment e row.seg) (some_same (sym h.row_is ∙ c.at.ensures.row)) h.share)))
 

@@ -25,7 +25,8 @@ pub loop-row-preserved : goal.loop-row-preserved
 loop-row-preserved c =
     let items = c.as_slice-row-items.result.now in
     let i = c.loop-row.row-index in
-    none_on (SharesWithRow c.args.other.now) items i (get_or items i _) c.loop-row.invariant (slice_get-get_or items i _ c.loop-row-test.true)
+    none_on (SharesWithRow c.args.other.now) items i (get_or items i _) c.loop-row.invariant
+    (slice_get-get_or items i _ c.loop-row-test.true)
     (λ h. false≢true (sym c.if-branch.false ∙ c.in_ok-shares_with_some.ensures.share.1 h))
 
 pub returns : goal.returns

@@ -13,13 +13,17 @@ loop-figure-init c = record {
 
 pub admit_sound-requires : goal.admit_sound-requires
 admit_sound-requires c = record {
-  sound = (All-pop IsSound c.loop-figure.figures c.pop.new.self (Some c.in-Some.figure) c.in-Some.ensures.last c.loop-figure.invariant.sound).1;
+  sound =
+      (All-pop IsSound c.loop-figure.figures c.pop.new.self (Some c.in-Some.figure) c.in-Some.ensures.last c.loop-figure.invariant.sound).1;
 }
 
 pub loop-figure-preserved : goal.loop-figure-preserved
 loop-figure-preserved c = record {
-  order = ap (λ taken. c.pop.new.self ++ reverse taken) (c.in_ok-push.ensures.ok ∙ ap (λ last. c.loop-figure.valids ++ last ∷ []) c.in_ok-admit_sound.ensures.same)
+  order =
+      ap (λ taken. c.pop.new.self ++ reverse taken)
+      (c.in_ok-push.ensures.ok ∙ ap (λ last. c.loop-figure.valids ++ last ∷ []) c.in_ok-admit_sound.ensures.same)
       ∙ one_popped c.pop.new.self c.loop-figure.valids c.loop-figure.figures c.args.figures c.in-Some.figure c.in-Some.ensures.last
       c.loop-figure.invariant.order;
-  sound = (All-pop IsSound c.loop-figure.figures c.pop.new.self (Some c.in-Some.figure) c.in-Some.ensures.last c.loop-figure.invariant.sound).0;
+  sound =
+      (All-pop IsSound c.loop-figure.figures c.pop.new.self (Some c.in-Some.figure) c.in-Some.ensures.last c.loop-figure.invariant.sound).0;
 }

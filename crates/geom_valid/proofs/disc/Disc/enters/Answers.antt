@@ -16,7 +16,8 @@ returns c =
     let ring = c.args.self.now in
     let other = c.args.other.now in
     let own : IsDisc ring c.self.inside.rows = subst (λ (r : List Pt). IsDisc r c.self.inside.rows) c.self.view_is c.self.invariant.disc in
-    let its : IsDisc other c.other.inside.rows = subst (λ (r : List Pt). IsDisc r c.other.inside.rows) c.other.view_is c.other.invariant.disc in
+    let its : IsDisc other c.other.inside.rows = subst
+    (λ (r : List Pt). IsDisc r c.other.inside.rows) c.other.view_is c.other.invariant.disc in
     let unshared : ¬ EdgesShareSegment (edges_of ring) (edges_in (disc_of other))
     = subst (λ (es : List Seg). ¬ EdgesShareSegment (edges_of ring) es) (sym (disc_edges other)) c.requires.unshared in
     let begins : BeginsIn ring (disc_of other) c.locate-first.result

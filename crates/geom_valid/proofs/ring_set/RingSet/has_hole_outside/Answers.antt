@@ -14,13 +14,17 @@ leaves-requires c =
     let area = c.self.inside.area.now in
     let at = read_at c.as_slice-hole-items.result.now area.holes c.loop-hole.hole-index c.hole-item.result
     (c.as_slice-hole-items.ensures.items ∙ c.self.invariant.holes_are) c.loop-hole-test.true c.hole-item.is in
-    record { unshared = shell_unshared area c.self.invariant.unshared c.self.inside.shell c.self.invariant.shell_is c.loop-hole.hole-index c.hole-item.result at }
+    record {
+      unshared = shell_unshared area c.self.invariant.unshared c.self.inside.shell c.self.invariant.shell_is c.loop-hole.hole-index
+          c.hole-item.result at;
+    }
 
 pub returns-then-branch : goal.returns-then-branch
 returns-then-branch c =
     let area = c.args.self.now in
     let at = read_at c.as_slice-hole-items.result.now area.holes c.loop-hole.hole-index c.hole-item.result
-    (c.as_slice-hole-items.ensures.items ∙ c.self.invariant.holes_are ∙ ap (λ (a : Area). a.holes) c.self.view_is) c.loop-hole-test.true c.hole-item.is in
+    (c.as_slice-hole-items.ensures.items ∙ c.self.invariant.holes_are ∙ ap (λ (a : Area). a.holes) c.self.view_is) c.loop-hole-test.true
+    c.hole-item.is in
     let shell : c.self.inside.shell ≡ area.shell = c.self.invariant.shell_is ∙ ap (λ (a : Area). a.shell) c.self.view_is in
     let leaves : LeavesShell area.shell c.hole-item.result
     = subst (λ (s : List Pt). LeavesShell s c.hole-item.result) shell (c.in_ok-leaves.ensures.leaves.0 c.if-branch.true) in
@@ -33,14 +37,16 @@ loop-hole-preserved c =
     let at = read_at items items c.loop-hole.hole-index c.hole-item.result refl c.loop-hole-test.true c.hole-item.is in
     let shell : c.self.inside.shell ≡ area.shell = c.self.invariant.shell_is ∙ ap (λ (a : Area). a.shell) c.self.view_is in
     none_on (LeavesShell area.shell) items c.loop-hole.hole-index c.hole-item.result c.loop-hole.invariant at
-    (λ h. false≢true (sym c.if-branch.false ∙ c.in_ok-leaves.ensures.leaves.1 (subst (λ (s : List Pt). LeavesShell s c.hole-item.result) (sym shell) h)))
+    (λ h. false≢true
+    (sym c.if-branch.false ∙ c.in_ok-leaves.ensures.leaves.1 (subst (λ (s : List Pt). LeavesShell s c.hole-item.result) (sym shell) h)))
 
 pub returns : goal.returns
 returns c =
     let area = c.args.self.now in
     let holes : c.as_slice-hole-items.result.now ≡ area.holes
     = c.as_slice-hole-items.ensures.items ∙ c.self.invariant.holes_are ∙ ap (λ (a : Area). a.holes) c.self.view_is in
-    let none = none_at_last (LeavesShell area.shell) c.as_slice-hole-items.result.now c.loop-hole.hole-index c.loop-hole.invariant c.loop-hole-test.false in
+    let none = none_at_last
+    (LeavesShell area.shell) c.as_slice-hole-items.result.now c.loop-hole.hole-index c.loop-hole.invariant c.loop-hole-test.false in
     let all : (i : ℕ) (hole : List Pt) → IsAtPlace area.holes i hole → ¬ LeavesShell area.shell hole
     = λ i hole is. none i hole (subst (λ (xs : List (List Pt)). IsAtPlace xs i hole) (sym holes) is) in
     record { outside = (λ e. absurd (false≢true e), λ h. absurd (no_hole_outside area all h)) }

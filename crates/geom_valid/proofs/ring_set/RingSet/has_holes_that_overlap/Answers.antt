@@ -17,11 +17,18 @@ of-requires c =
 pub overlaps_earlier-requires-clause-boxes : goal.overlaps_earlier-requires-clause-boxes
 overlaps_earlier-requires-clause-boxes c =
     let holes : c.as_slice.result.now ≡ c.args.self.now.holes = c.as_slice.ensures.items ∙ ap (λ (a : Area). a.holes) c.self.view_is in
-    subst₂ (λ (hs : List (List Pt)) (bs : List Window). AreRound IsRoundRing hs bs) holes (sym c.in_ok-boxes.ensures.boxes) c.in_ok-ring_boxes.ensures.round
+    subst₂ (λ (hs : List (List Pt)) (bs : List Window). AreRound IsRoundRing hs bs) holes
+    (sym c.in_ok-boxes.ensures.boxes) c.in_ok-ring_boxes.ensures.round
 
 pub returns-then-branch : goal.returns-then-branch
 returns-then-branch c =
-    record { overlap = (λ _. holes_overlap_at c.args.self.now c.loop-place.place (c.in_ok-overlaps_earlier.ensures.overlap.0 c.if-branch.true), λ _. refl) }
+    record {
+      overlap = (
+        λ _. holes_overlap_at c.args.self.now c.loop-place.place
+            (c.in_ok-overlaps_earlier.ensures.overlap.0 c.if-branch.true),
+        λ _. refl,
+      );
+    }
 
 pub returns : goal.returns
 returns c =
@@ -31,6 +38,9 @@ returns c =
     record {
       overlap = (
         λ e. absurd (false≢true e),
-        λ h. absurd (no_holes_overlap area (λ place some. c.loop-place.invariant place (omega (arith, hole_within area.holes place some, count, c.loop-place-test.false)) some) h),
+        λ h. absurd
+            (no_holes_overlap area
+            (λ place some. c.loop-place.invariant place
+            (omega (arith, hole_within area.holes place some, count, c.loop-place-test.false)) some) h),
       );
     }
