@@ -67,12 +67,15 @@ boundary_met-least m =
     (rank-most (dimension_at m (cell Interior Boundary))) (omega arith) (omega arith)
 
 -- a test that asks for no such point is false for good once there is one
-refuted_alone : (test q : Matrix → Bool) (m : Matrix) → ((x : Matrix) → test x ≡ not (q x)) → IsRising q → q everywhere ≡ true → IsKnown test m (then_some (q m) false)
+refuted_alone :
+    (test q : Matrix → Bool) (m : Matrix) → ((x : Matrix) → test x ≡ not (q x)) → IsRising q → q everywhere ≡ true →
+    IsKnown test m (then_some (q m) false)
 refuted_alone test q m means rising all = refuted_by test (λ _. true) q m m means rising all (itself m) refl refl
 
 -- a test that asks for an inner common point, and for none of two others, is false for good once one of the others is there
 refuted_by_two :
-    (test e f : Matrix → Bool) (m : Matrix) → ((x : Matrix) → test x ≡ (has x Interior Interior && (not (e x) && (not (f x) && true))) || false)
+    (test e f : Matrix → Bool) (m : Matrix) →
+    ((x : Matrix) → test x ≡ (has x Interior Interior && (not (e x) && (not (f x) && true))) || false)
     → IsRising (λ x. e x || f x) → (e everywhere || f everywhere) ≡ true → (e (interiors_met m) || f (interiors_met m)) ≡ (e m || f m)
     → IsKnown test m (then_some (e m || f m) false)
 refuted_by_two test e f m means rising all same =
@@ -107,21 +110,25 @@ covered_by-means a b x =
 
 -- Covers is false for good once B leaves A
 pub covers-known : (a b : Dim) (m : Matrix) → IsKnown (name_value Covers a b) m (then_some (b_leaves_a m) false)
-covers-known a b m = refuted_by_points (name_value Covers a b) figures_meet b_leaves_a m (covers-means a b) rising-b_leaves_a refl refl refl
+covers-known a b m =
+    refuted_by_points (name_value Covers a b) figures_meet b_leaves_a m (covers-means a b) rising-b_leaves_a refl refl refl
 
 -- CoveredBy is false for good once A leaves B
 pub covered_by-known : (a b : Dim) (m : Matrix) → IsKnown (name_value CoveredBy a b) m (then_some (a_leaves_b m) false)
-covered_by-known a b m = refuted_by_points (name_value CoveredBy a b) figures_meet a_leaves_b m (covered_by-means a b) rising-a_leaves_b refl refl refl
+covered_by-known a b m =
+    refuted_by_points (name_value CoveredBy a b) figures_meet a_leaves_b m (covered_by-means a b) rising-a_leaves_b refl refl refl
 
 -- Contains is false for good once B leaves A
 pub contains-known : (a b : Dim) (m : Matrix) → IsKnown (name_value Contains a b) m (then_some (b_leaves_a m) false)
 contains-known a b m =
-    refuted_by_two (name_value Contains a b) (λ x. has x Exterior Interior) (λ x. has x Exterior Boundary) m (λ x. refl) rising-b_leaves_a refl refl
+    refuted_by_two (name_value Contains a b) (λ x. has x Exterior Interior) (λ x. has x Exterior Boundary) m (λ x. refl)
+    rising-b_leaves_a refl refl
 
 -- Within is false for good once A leaves B
 pub within-known : (a b : Dim) (m : Matrix) → IsKnown (name_value Within a b) m (then_some (a_leaves_b m) false)
 within-known a b m =
-    refuted_by_two (name_value Within a b) (λ x. has x Interior Exterior) (λ x. has x Boundary Exterior) m (λ x. refl) rising-a_leaves_b refl refl
+    refuted_by_two (name_value Within a b) (λ x. has x Interior Exterior) (λ x. has x Boundary Exterior) m (λ x. refl)
+    rising-a_leaves_b refl refl
 
 -- Equals is false for good once a figure leaves the other
 pub equals-known : (a b : Dim) (m : Matrix) → IsKnown (name_value Equals a b) m (then_some (a_leaves_b m || b_leaves_a m) false)
@@ -181,7 +188,8 @@ crosses_rule-level a b h k l = grind (arith, nat_tests)
 
 -- Crosses is true for good once the interiors meet and another cell is there, where its rule asks for these two
 crosses_two-known :
-    (a b : Dim) (c d : Loc) (m : Matrix) → ((x : Matrix) → name_value Crosses a b x ≡ (has x Interior Interior && (has x c d && true)) || false)
+    (a b : Dim) (c d : Loc) (m : Matrix) →
+    ((x : Matrix) → name_value Crosses a b x ≡ (has x Interior Interior && (has x c d && true)) || false)
     → has everywhere c d ≡ true → IsKnown (name_value Crosses a b) m (then_some (has m Interior Interior && has m c d) true)
 crosses_two-known a b c d m means all =
     confirmed_by (name_value Crosses a b) (λ x. has x Interior Interior && has x c d) m
@@ -190,16 +198,16 @@ crosses_two-known a b c d m means all =
     all
 
 -- Crosses of a lower figure is true for good once A's interior is in B's and outside B
-pub crosses_below-known :
-    (a b : Dim) (m : Matrix) → nat_lt (rank a) (rank b) ≡ true →
+pub crosses_below-known : (a b : Dim) (m : Matrix) → nat_lt (rank a) (rank b) ≡ true →
     IsKnown (name_value Crosses a b) m (then_some (has m Interior Interior && has m Interior Exterior) true)
-crosses_below-known a b m h = crosses_two-known a b Interior Exterior m (λ x. ap (λ (r : Rule). rule_value r x) (crosses_rule-below a b h)) refl
+crosses_below-known a b m h =
+    crosses_two-known a b Interior Exterior m (λ x. ap (λ (r : Rule). rule_value r x) (crosses_rule-below a b h)) refl
 
 -- Crosses of a higher figure is true for good once B's interior is in A's and outside A
-pub crosses_above-known :
-    (a b : Dim) (m : Matrix) → nat_lt (rank b) (rank a) ≡ true →
+pub crosses_above-known : (a b : Dim) (m : Matrix) → nat_lt (rank b) (rank a) ≡ true →
     IsKnown (name_value Crosses a b) m (then_some (has m Interior Interior && has m Exterior Interior) true)
-crosses_above-known a b m h = crosses_two-known a b Exterior Interior m (λ x. ap (λ (r : Rule). rule_value r x) (crosses_rule-above a b h)) refl
+crosses_above-known a b m h =
+    crosses_two-known a b Exterior Interior m (λ x. ap (λ (r : Rule). rule_value r x) (crosses_rule-above a b h)) refl
 
 -- Crosses of two figures of one dimension that aren't lines is false
 pub crosses_level-known :

@@ -182,7 +182,8 @@ split_slots (x ∷ front) rest [] h = elim h [ ]
 split_slots (x ∷ front) rest (y ∷ slots) (both e h) = let s = split_slots front rest slots h in split_more x y s (both e s.alike_before)
 
 -- A list of slots in two parts, and the moves that are alike to each.
-pub split_moves : (front rest : List Slot) (moves : List Move) → AreAlike moves (front ++ rest) → Split (λ ss ms. AreAlike ms ss) front rest moves
+pub split_moves : (front rest : List Slot) (moves : List Move) → AreAlike moves (front ++ rest) →
+    Split (λ ss ms. AreAlike ms ss) front rest moves
 split_moves [] rest moves h = record { before = []; after = moves; joined = refl; alike_before = ended; alike_after = h }
 split_moves (y ∷ front) rest [] h = elim h [ ]
 split_moves (y ∷ front) rest (x ∷ moves) (both e h) = let s = split_moves front rest moves h in split_more y x s (both e s.alike_before)

@@ -79,7 +79,8 @@ pub record IsBuilt (b : Build) : Type 0 where
   most : b.count ≤ most_positions
 
 -- A build is well shaped by its parts.
-built_of : {b : Build} → IsWayInLimit b.figure.points → All IsLineShaped b.figure.lines → All IsAreaShaped b.figure.areas → IsWayInLimit b.way →
+built_of : {b : Build} →
+    IsWayInLimit b.figure.points → All IsLineShaped b.figure.lines → All IsAreaShaped b.figure.areas → IsWayInLimit b.way →
     IsShellShaped b.shell → All IsRingShaped b.holes → IsXNear b.x →
     (((positions_of b.figure + length b.way) + shell_length b.shell) + sum_by length b.holes) + begun b.x ≤ b.count →
     b.count ≤ most_positions → IsBuilt b
@@ -95,7 +96,8 @@ value_near other z n e = absurd (cc)
 
 pub built_start : IsBuilt start_build
 built_start =
-    built_of (All-nil IsInLimit) (All-nil IsLineShaped) (All-nil IsAreaShaped) (All-nil IsInLimit) tt (All-nil IsRingShaped) tt (omega arith) (omega arith)
+    built_of (All-nil IsInLimit) (All-nil IsLineShaped) (All-nil IsAreaShaped) (All-nil IsInLimit) tt (All-nil IsRingShaped) tt
+    (omega arith) (omega arith)
 
 good_x : (b : Build) (z : ℤ) → IsBuilt b → IsNear z → b.count < most_positions → IsBuilt (with_x b z)
 good_x b z h n c = built_of h.points h.lines h.areas h.way h.shell h.holes n (omega (arith, h.few)) (omega arith)
@@ -156,8 +158,8 @@ good_shell b h = holds_unless IsBuilt (ring_fault b.way) _ (λ e.
 
 good_hole : (b : Build) → IsBuilt b → Holds IsBuilt (act_by b role.EndHole token.Close)
 good_hole b h = holds_unless IsBuilt (ring_fault b.way) _ (λ e.
-    built_of h.points h.lines h.areas (All-nil IsInLimit) h.shell (All-push IsRingShaped b.holes b.way h.holes (ring_shaped b.way h.way e)) h.x
-    (omega (arith, h.few, sum_by_push length b.holes b.way)) h.most)
+    built_of h.points h.lines h.areas (All-nil IsInLimit) h.shell (All-push IsRingShaped b.holes b.way h.holes (ring_shaped b.way h.way e))
+    h.x (omega (arith, h.few, sum_by_push length b.holes b.way)) h.most)
 
 good_area : (b : Build) (o : Option (List Pt)) → b.shell ≡ o → IsBuilt b → IsBuilt (with_area b o)
 good_area b None e h = h

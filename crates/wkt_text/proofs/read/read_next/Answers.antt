@@ -9,7 +9,8 @@ returns-then-run_end-bytes-clause-none c = white_to_end c.args.bytes.now c.args.
 
 pub returns-then-run_end-bytes-clause-only : goal.returns-then-run_end-bytes-clause-only
 returns-then-run_end-bytes-clause-only c figure last r =
-    white_unread c.args.scale.digits c.args.bytes.now c.args.at figure last (white_to_end c.args.bytes.now c.args.at (omega arith) (omega arith)) r
+    white_unread c.args.scale.digits c.args.bytes.now c.args.at figure last
+    (white_to_end c.args.bytes.now c.args.at (omega arith) (omega arith)) r
 
 pub read_geometry-requires-clause-some : goal.read_geometry-requires-clause-some
 read_geometry-requires-clause-some c white = absurd (omega (arith, end_of_white c.args.bytes.now c.args.at (omega arith) white))
