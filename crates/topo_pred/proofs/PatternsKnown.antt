@@ -51,8 +51,7 @@ abbrev moved_by : (Mark → Dim → Dim) → Pattern → Matrix → Matrix
 moved_by f p m = matrix_by (λ c. f (mark_at p c) (dimension_at m c))
 
 -- what is in its cells
-in_moved :
-    (f : Mark → Dim → Dim) (p : Pattern) (m : Matrix) (c : Cell) → dimension_at (moved_by f p m) c ≡ f (mark_at p c) (dimension_at m c)
+in_moved : (f : Mark → Dim → Dim) (p : Pattern) (m : Matrix) (c : Cell) → dimension_at (moved_by f p m) c ≡ f (mark_at p c) (dimension_at m c)
 in_moved f p m c = dimension_at-matrix_by (λ d. f (mark_at p d) (dimension_at m d)) c
 
 -- it is at least the matrix where each move is upwards
@@ -75,8 +74,7 @@ abbrev holds : Pattern → Matrix → Cell → Bool
 holds p m c = holds_for_good (mark_at p c) (dimension_at m c)
 
 -- where one test hands its value on to another at each cell, all of the one are worth all of the other
-all-alike :
-    (one other : Cell → Bool) (v : Bool) → ((c : Cell) → one c ≡ v → other c ≡ v) → (cs : List Cell) → list_all one cs ≡ v
+all-alike : (one other : Cell → Bool) (v : Bool) → ((c : Cell) → one c ≡ v → other c ≡ v) → (cs : List Cell) → list_all one cs ≡ v
     → list_all other cs ≡ v
 all-alike one other v each [] h = h
 all-alike one other v each (c ∷ cs) h =
@@ -89,20 +87,20 @@ any-against one other v each [] h = ap not h
 any-against one other v each (c ∷ cs) h =
     or-against v (one c) (list_any one cs) (other c) (list_all other cs) (each c) (any-against one other v each cs) h
 
+-- whether the matrix matches the pattern
+abbrev matches : Pattern → Matrix → Bool
+matches p m = text_matches (pattern_text p) m
+
 -- a pattern is false for good once a mark fails for good
-pub pattern_false :
-    (p : Pattern) (m : Matrix) → list_any (fails p m) all_cells ≡ true → IsKnown (text_matches (pattern_text p)) m (Some false)
+pub pattern_false : (p : Pattern) (m : Matrix) → list_any (fails p m) all_cells ≡ true → IsKnown (matches p) m (Some false)
 pattern_false p m h =
-    known_value (text_matches (pattern_text p)) m false
-    (λ later more. any-against (fails p m) (meets p later) true
+    known_value (matches p) m false (λ later more. any-against (fails p m) (meets p later) true
     (λ c t. fails-later (mark_at p c) (dimension_at m c) (dimension_at later c) t (more c)) all_cells h)
 
 -- a pattern is true for good once all marks hold for good
-pub pattern_true :
-    (p : Pattern) (m : Matrix) → list_all (holds p m) all_cells ≡ true → IsKnown (text_matches (pattern_text p)) m (Some true)
+pub pattern_true : (p : Pattern) (m : Matrix) → list_all (holds p m) all_cells ≡ true → IsKnown (matches p) m (Some true)
 pattern_true p m h =
-    known_value (text_matches (pattern_text p)) m true
-    (λ later more. all-alike (holds p m) (meets p later) true
+    known_value (matches p) m true (λ later more. all-alike (holds p m) (meets p later) true
     (λ c t. holds-later (mark_at p c) (dimension_at m c) (dimension_at later c) t (more c)) all_cells h)
 
 -- what a mark says of its cell where that is moved
@@ -113,9 +111,9 @@ meets_moved f p m c v h = ap (accepts (mark_character (mark_at p c))) (in_moved 
 -- otherwise what is still to come decides
 pub pattern_open :
     (p : Pattern) (m : Matrix) → list_any (fails p m) all_cells ≡ false → list_all (holds p m) all_cells ≡ false →
-    IsKnown (text_matches (pattern_text p)) m None
+    IsKnown (matches p) m None
 pattern_open p m h k =
-    known_none (text_matches (pattern_text p)) m (moved_by refused_from p m) (moved_by accepted_from p m)
+    known_none (matches p) m (moved_by refused_from p m) (moved_by accepted_from p m)
     (moved_by-least refused_from p m refused_from-least) (moved_by-least accepted_from p m (λ k d. greater-least d (range_of k).0))
     (all-alike (holds p m) (meets p (moved_by refused_from p m)) false
     (λ c t. meets_moved refused_from p m c false (refused (mark_at p c) (dimension_at m c) t)) all_cells k)

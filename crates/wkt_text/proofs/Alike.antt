@@ -8,16 +8,12 @@ use Rattle.wkt_text.specs.declared.word.Tag.{Tag}
 use Rattle.wkt_text.specs.declared.word.Tag.TheVariants.{Plain, Z, M, Zm}
 use Rattle.wkt_text.specs.declared.token.Token.{Token}
 use Rattle.wkt_text.specs.declared.state.Role.{Role}
-use Rattle.wkt_text.specs.declared.state.Role.TheVariants.{Head, Deep, Mark, Group, PointY, WayY, Demanded, Further, EndLine, EndShell}
-use Rattle.wkt_text.specs.declared.state.Role.TheVariants.{EndHole}
+use Rattle.wkt_text.specs.declared.state.Role.TheVariants.{Head, Deep, Mark, Group, PointY, WayY, Demanded, Further, EndLine, EndShell, EndHole}
 use Rattle.wkt_text.specs.Limits.{most_depth}
 use Rattle.wkt_text.specs.Machine.{depth_role}
-use Rattle.wkt_text.specs.Grammar.{Position, empty_way, along, empty_element, bare, bracketed, empty_surface, hollow, area, empty_many}
-use Rattle.wkt_text.specs.Grammar.{several, empty_point, point, line, polygon, points, lines, polygons, joined, apart, Geometry, simple}
-use Rattle.wkt_text.specs.Grammar.{empty_collection, collection, Geometries, none, more, type_of_simple}
+use Rattle.wkt_text.specs.Grammar.{Position, empty_way, along, empty_element, bare, bracketed, empty_surface, hollow, area, empty_many, several, empty_point, point, line, polygon, points, lines, polygons, joined, apart, Geometry, simple, empty_collection, collection, Geometries, none, more, type_of_simple}
 use Rattle.wkt_text.specs.Rules.{TokenRule, unruled, nested, demanded, further, ends_line, ends_ring, Slot, slot, tokens_of}
-use Rattle.wkt_text.specs.Spelling.{further_then, more_then, position_then, others_then, along_then, way_then, element_then, gaps_then}
-use Rattle.wkt_text.specs.Spelling.{surface_then, many_then, simple_then, head_then, geometry_then, geometries_then, spelling}
+use Rattle.wkt_text.specs.Spelling.{further_then, more_then, position_then, others_then, along_then, way_then, element_then, gaps_then, surface_then, many_then, simple_then, head_then, geometry_then, geometries_then, spelling}
 use Rattle.wkt_text.proofs.Moves.{Move, move, tokens_in, course}
 use Rattle.wkt_text.proofs.Moves as moves
 
@@ -186,8 +182,8 @@ split_slots (x ∷ front) rest [] h = elim h [ ]
 split_slots (x ∷ front) rest (y ∷ slots) (both e h) = let s = split_slots front rest slots h in split_more x y s (both e s.alike_before)
 
 -- A list of slots in two parts, and the moves that are alike to each.
-pub split_moves :
-    (front rest : List Slot) (moves : List Move) → AreAlike moves (front ++ rest) → Split (λ ss ms. AreAlike ms ss) front rest moves
+pub split_moves : (front rest : List Slot) (moves : List Move) → AreAlike moves (front ++ rest) →
+    Split (λ ss ms. AreAlike ms ss) front rest moves
 split_moves [] rest moves h = record { before = []; after = moves; joined = refl; alike_before = ended; alike_after = h }
 split_moves (y ∷ front) rest [] h = elim h [ ]
 split_moves (y ∷ front) rest (x ∷ moves) (both e h) = let s = split_moves front rest moves h in split_more y x s (both e s.alike_before)

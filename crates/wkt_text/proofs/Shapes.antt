@@ -1,6 +1,5 @@
 -- What tokens build is well shaped.
-use Rattle.std.proofs.Common.{◌≡◌, ℕ, ◌+◌, ◌-◌, ◌<◌, ◌≤◌, ℤ, pos, negsuc, ◌≤ℤ◌, nat_lt, cond, Bool, true, false, Option, Some, None, Ok}
-use Rattle.std.proofs.Common.{List, [], ◌∷◌, length, get_or, drop, take_while, codes, ◌==◌, sum_by, refl, sym, ap, subst, ◌∙◌, arith}
+use Rattle.std.proofs.Common.{◌≡◌, ℕ, ◌+◌, ◌-◌, ◌<◌, ◌≤◌, ℤ, pos, negsuc, ◌≤ℤ◌, nat_lt, cond, Bool, true, false, Option, Some, None, Ok, List, [], ◌∷◌, length, get_or, drop, take_while, codes, ◌==◌, sum_by, refl, sym, ap, subst, ◌∙◌, arith}
 use Rattle.std.specs.List.{All}
 use Rattle.std.specs.Ordering.{int_eq}
 use Rattle.std.proofs.lemmas.Int.{ints}
@@ -14,8 +13,7 @@ use Rattle.plane_exact.specs.Places.{IsInLimit}
 use Rattle.plane_exact.specs.declared.point.Pt.{Pt}
 use Rattle.point_set.specs.declared.figure.Area.{Area}
 use Rattle.point_set.specs.declared.figure.Figure.{Figure}
-use Rattle.point_set.specs.Shape.{IsWayInLimit, IsLineShaped, IsClosed, IsRingShaped, IsAreaShaped, positions_of_area, positions_of}
-use Rattle.point_set.specs.Shape.{IsWellShaped}
+use Rattle.point_set.specs.Shape.{IsWayInLimit, IsLineShaped, IsClosed, IsRingShaped, IsAreaShaped, positions_of_area, positions_of, IsWellShaped}
 use Rattle.wkt_text.specs.declared.number.Numeral.{Numeral}
 use Rattle.wkt_text.specs.declared.number.Numeral.TheVariants.{Long, Malformed, Fraction, Wide, Whole}
 use Rattle.wkt_text.specs.declared.token.Token.{Token}
@@ -30,8 +28,7 @@ use Rattle.wkt_text.specs.Words.{tag_of, type_of}
 use Rattle.text_laws.specs.Numbers.{signed, size_of, ratio_of, is_minus, is_formed}
 use Rattle.text_laws.specs.Numbers as numbers
 use Rattle.wkt_text.specs.Numbers.{numeral_of}
-use Rattle.wkt_text.specs.Tokens.{tag_token, type_token, is_name, word_token, word_in, number_in, is_number_start, mark, token_in, place_of}
-use Rattle.wkt_text.specs.Tokens.{lexeme_at}
+use Rattle.wkt_text.specs.Tokens.{tag_token, type_token, is_name, word_token, word_in, number_in, is_number_start, mark, token_in, place_of, lexeme_at}
 use Rattle.wkt_text.specs.Faults.{Stands, Reads}
 use Rattle.wkt_text.specs.Rules.{tokens_of}
 use Rattle.wkt_text.specs.Spelling.{spelling}
@@ -82,8 +79,8 @@ pub record IsBuilt (b : Build) : Type 0 where
   most : b.count ≤ most_positions
 
 -- A build is well shaped by its parts.
-built_of :
-    {b : Build} → IsWayInLimit b.figure.points → All IsLineShaped b.figure.lines → All IsAreaShaped b.figure.areas → IsWayInLimit b.way →
+built_of : {b : Build} →
+    IsWayInLimit b.figure.points → All IsLineShaped b.figure.lines → All IsAreaShaped b.figure.areas → IsWayInLimit b.way →
     IsShellShaped b.shell → All IsRingShaped b.holes → IsXNear b.x →
     (((positions_of b.figure + length b.way) + shell_length b.shell) + sum_by length b.holes) + begun b.x ≤ b.count →
     b.count ≤ most_positions → IsBuilt b
@@ -161,9 +158,8 @@ good_shell b h = holds_unless IsBuilt (ring_fault b.way) _ (λ e.
 
 good_hole : (b : Build) → IsBuilt b → Holds IsBuilt (act_by b role.EndHole token.Close)
 good_hole b h = holds_unless IsBuilt (ring_fault b.way) _ (λ e.
-    built_of h.points h.lines h.areas (All-nil IsInLimit) h.shell
-    (All-push IsRingShaped b.holes b.way h.holes (ring_shaped b.way h.way e)) h.x
-    (omega (arith, h.few, sum_by_push length b.holes b.way)) h.most)
+    built_of h.points h.lines h.areas (All-nil IsInLimit) h.shell (All-push IsRingShaped b.holes b.way h.holes (ring_shaped b.way h.way e))
+    h.x (omega (arith, h.few, sum_by_push length b.holes b.way)) h.most)
 
 good_area : (b : Build) (o : Option (List Pt)) → b.shell ≡ o → IsBuilt b → IsBuilt (with_area b o)
 good_area b None e h = h

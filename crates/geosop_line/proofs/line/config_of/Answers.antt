@@ -1,7 +1,6 @@
 -- Each fault of a part is the first of all, since the parts before it are there.
 use Rattle.clap.specs.Matches.{found_of}
-use Rattle.geosop_line.proofs.FirstFaults.{figures_first, figures_made, given_on, passes_figures, passes_query, passes_rule, passes_threads}
-use Rattle.geosop_line.proofs.FirstFaults.{query_first, rule_first, scale_first, threads_first}
+use Rattle.geosop_line.proofs.FirstFaults.{figures_first, figures_made, given_on, passes_figures, passes_query, passes_rule, passes_threads, query_first, rule_first, scale_first, threads_first}
 use Rattle.geosop_line.proofs.Values.{value_is}
 use Rattle.geosop_line.proofs.line.config_of.Goals as goal
 
@@ -32,8 +31,8 @@ returns-in_err-threads-clause-fault c =
     given_on found c.from_residual-in_err-threads.result c.from_residual-in_err-threads.ensures.1 (threads_first found
     (passes_rule found (passes_query found
     (passes_figures found c.in_ok-figures.figures c.get_str.ensures c.get_str-2.ensures c.get_str-3.ensures c.in_ok-figures.ensures.figures)
-    c.in_ok-query.query c.get_str-4.ensures c.get_str-5.ensures c.in_ok-query.ensures.query) c.in_ok-rule.rule c.get_str-6.ensures
-    c.in_ok-rule.ensures.rule)
+    c.in_ok-query.query c.get_str-4.ensures c.get_str-5.ensures c.in_ok-query.ensures.query)
+    c.in_ok-rule.rule c.get_str-6.ensures c.in_ok-rule.ensures.rule)
     c.get_str-7.ensures c.in_err-threads.ensures.threads)
 
 pub returns-in_err-scale-clause-fault : goal.returns-in_err-scale-clause-fault
@@ -42,8 +41,8 @@ returns-in_err-scale-clause-fault c =
     given_on found c.from_residual-in_err-scale.result c.from_residual-in_err-scale.ensures.1 (scale_first found
     (passes_threads found (passes_rule found (passes_query found
     (passes_figures found c.in_ok-figures.figures c.get_str.ensures c.get_str-2.ensures c.get_str-3.ensures c.in_ok-figures.ensures.figures)
-    c.in_ok-query.query c.get_str-4.ensures c.get_str-5.ensures c.in_ok-query.ensures.query) c.in_ok-rule.rule c.get_str-6.ensures
-    c.in_ok-rule.ensures.rule)
+    c.in_ok-query.query c.get_str-4.ensures c.get_str-5.ensures c.in_ok-query.ensures.query)
+    c.in_ok-rule.rule c.get_str-6.ensures c.in_ok-rule.ensures.rule)
     c.in_ok-threads.threads c.get_str-7.ensures c.in_ok-threads.ensures.threads) c.get_str-8.ensures c.in_err-scale.ensures.scale)
 
 pub returns-clause-config : goal.returns-clause-config
