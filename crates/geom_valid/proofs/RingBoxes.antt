@@ -51,6 +51,7 @@ pub ends_in : (box : Window) (ring : List Pt) → IsRoundRing box ring → All (
 ends_in box [] h = All-nil (AreEndsIn box)
 ends_in box (p ∷ others) h = ends_after box p others (All-head (IsInBox box) p others h) (All-tail (IsInBox box) p others h)
 
+-- ---- a ray from outside the box
 -- both ends on one side of the point: an edge that goes up has it on the other
 turn_of_up : (s : Bool) (a b p : Point) → HasSign s (shift p a) → HasSign s (shift p b) → rise p a ≤ℤ pos 0 → pos 0 <ℤ rise p b
     → HasSign s (turn a b p)

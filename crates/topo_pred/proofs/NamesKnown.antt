@@ -9,15 +9,18 @@ use Rattle.im_matrix.specs.declared.Loc.TheVariants.{Interior, Boundary, Exterio
 use Rattle.im_matrix.specs.declared.Dim.{Dim}
 use Rattle.im_matrix.specs.declared.Dim.TheVariants.{Zero, One, Two}
 use Rattle.im_matrix.specs.declared.Matrix.{Matrix}
-use Rattle.im_matrix.specs.declared.names.Name.TheVariants.{Intersects, Disjoint, Contains, Within, Covers, CoveredBy, Touches, Crosses, Overlaps, Equals, ContainsProperly}
+use Rattle.im_matrix.specs.declared.names.Name.TheVariants.{Intersects, Disjoint, Contains, Within, Covers, CoveredBy, Touches, Crosses}
+use Rattle.im_matrix.specs.declared.names.Name.TheVariants.{Overlaps, Equals, ContainsProperly}
 use Rattle.im_matrix.specs.Cells.{cell, dimension_at, rank, greater}
 use Rattle.im_matrix.specs.Common.{has, figures_meet, a_leaves_b, b_leaves_a}
 use Rattle.im_matrix.specs.Names.{Rule, one_of, crosses_rule, name_value, rule_value}
 use Rattle.topo_pred.specs.Later.{IsAtLeast, IsKnown}
 use Rattle.im_matrix.proofs.Laws.{greater-least, rank-most}
-use Rattle.topo_pred.proofs.Matrices.{everywhere, is_points, is_lines, is_present-greater_zero, rank-greater_zero, rank-greater_one, rank-greater_one-two, itself, with_cells, with_cells-least}
+use Rattle.topo_pred.proofs.Matrices.{everywhere, is_points, is_lines, is_present-greater_zero, rank-greater_zero, rank-greater_one}
+use Rattle.topo_pred.proofs.Matrices.{rank-greater_one-two, itself, with_cells, with_cells-least}
 use Rattle.topo_pred.proofs.KnownTests.{known_value, rising-rank, IsRising, rising-has, rising-or, rising-and, refuted_by, confirmed_by}
-use Rattle.topo_pred.proofs.CellTests.{four_and_two, two_and_four, one_and_two, none_of_four, not_first, two_cells, three_cells, none_of_two_and_two, one_and_four}
+use Rattle.topo_pred.proofs.CellTests.{four_and_two, two_and_four, one_and_two, none_of_four, not_first, two_cells, three_cells}
+use Rattle.topo_pred.proofs.CellTests.{none_of_two_and_two, one_and_four}
 
 -- common points stay
 rising-meet : IsRising figures_meet
@@ -40,12 +43,15 @@ rising-b_leaves_a =
 
 -- the matrix with an area common to both interiors
 abbrev interiors_met : Matrix → Matrix
-interiors_met m = with_cells m Two (dimension_at m (cell Interior Boundary)) (dimension_at m (cell Interior Exterior)) (dimension_at m (cell Exterior Interior))
+interiors_met m =
+    with_cells m Two (dimension_at m (cell Interior Boundary)) (dimension_at m (cell Interior Exterior))
+    (dimension_at m (cell Exterior Interior))
 
 -- it is at least the matrix
 interiors_met-least : (m : Matrix) → IsAtLeast (interiors_met m) m
 interiors_met-least m =
-    with_cells-least m Two (dimension_at m (cell Interior Boundary)) (dimension_at m (cell Interior Exterior)) (dimension_at m (cell Exterior Interior)) (rank-most (dimension_at m (cell Interior Interior)))
+    with_cells-least m Two (dimension_at m (cell Interior Boundary)) (dimension_at m (cell Interior Exterior))
+    (dimension_at m (cell Exterior Interior)) (rank-most (dimension_at m (cell Interior Interior)))
     (omega arith) (omega arith) (omega arith)
 
 -- a test that asks for common points, and for none of others, is false for good once one of the others is there: an area that
@@ -58,12 +64,15 @@ refuted_by_points test p q m means rising all met same =
 
 -- the matrix where A's interior meets B's boundary in an area
 abbrev boundary_met : Matrix → Matrix
-boundary_met m = with_cells m (dimension_at m (cell Interior Interior)) Two (dimension_at m (cell Interior Exterior)) (dimension_at m (cell Exterior Interior))
+boundary_met m =
+    with_cells m (dimension_at m (cell Interior Interior)) Two (dimension_at m (cell Interior Exterior))
+    (dimension_at m (cell Exterior Interior))
 
 -- it is at least the matrix
 boundary_met-least : (m : Matrix) → IsAtLeast (boundary_met m) m
 boundary_met-least m =
-    with_cells-least m (dimension_at m (cell Interior Interior)) Two (dimension_at m (cell Interior Exterior)) (dimension_at m (cell Exterior Interior)) (omega arith)
+    with_cells-least m (dimension_at m (cell Interior Interior)) Two (dimension_at m (cell Interior Exterior))
+    (dimension_at m (cell Exterior Interior)) (omega arith)
     (rank-most (dimension_at m (cell Interior Boundary))) (omega arith) (omega arith)
 
 -- a test that asks for no such point is false for good once there is one
@@ -144,7 +153,8 @@ pub contains_properly-known :
 contains_properly-known a b m =
     refuted_by_points (name_value ContainsProperly a b) (λ x. has x Interior Interior)
     (λ x. has x Boundary Interior || has x Boundary Boundary || b_leaves_a x) m
-    (λ x. one_and_four (has x Interior Interior) (has x Boundary Interior) (has x Boundary Boundary) (has x Exterior Interior) (has x Exterior Boundary))
+    (λ x. one_and_four (has x Interior Interior) (has x Boundary Interior) (has x Boundary Boundary) (has x Exterior Interior)
+    (has x Exterior Boundary))
     (rising-or (λ x. has x Boundary Interior || has x Boundary Boundary) b_leaves_a
     (rising-or (λ x. has x Boundary Interior) (λ x. has x Boundary Boundary) (rising-has Boundary Interior) (rising-has Boundary Boundary))
     rising-b_leaves_a)
@@ -153,7 +163,8 @@ contains_properly-known a b m =
 -- Touches of two figures that aren't both points is false for good once the interiors meet
 touches_rule-known :
     (m : Matrix) →
-    IsKnown (rule_value (one_of (codes "FT*******" ∷ codes "F**T*****" ∷ codes "F***T****" ∷ []))) m (then_some (has m Interior Interior) false)
+    IsKnown (rule_value (one_of (codes "FT*******" ∷ codes "F**T*****" ∷ codes "F***T****" ∷ []))) m
+    (then_some (has m Interior Interior) false)
 touches_rule-known m =
     refuted_by (rule_value (one_of (codes "FT*******" ∷ codes "F**T*****" ∷ codes "F***T****" ∷ [])))
     (λ x. has x Interior Boundary || has x Boundary Interior || has x Boundary Boundary) (λ x. has x Interior Interior) m (boundary_met m)
@@ -221,21 +232,26 @@ pub crosses_lines-known :
     (m : Matrix) → IsKnown (name_value Crosses One One) m (then_some (nat_lt 1 (rank (dimension_at m (cell Interior Interior)))) false)
 crosses_lines-known m =
     let d = (dimension_at m (cell Interior Interior)) in
-    refuted_by (name_value Crosses One One) (λ x. has x Interior Interior) (λ x. nat_lt 1 (rank (dimension_at x (cell Interior Interior)))) m
-    (with_cells m (greater d Zero) (dimension_at m (cell Interior Boundary)) (dimension_at m (cell Interior Exterior)) (dimension_at m (cell Exterior Interior)))
+    refuted_by (name_value Crosses One One) (λ x. has x Interior Interior)
+    (λ x. nat_lt 1 (rank (dimension_at x (cell Interior Interior)))) m
+    (with_cells m (greater d Zero) (dimension_at m (cell Interior Boundary)) (dimension_at m (cell Interior Exterior))
+    (dimension_at m (cell Exterior Interior)))
     (λ x. is_points (dimension_at x (cell Interior Interior)))
     (rising-rank 1 Interior Interior)
     refl
-    (with_cells-least m (greater d Zero) (dimension_at m (cell Interior Boundary)) (dimension_at m (cell Interior Exterior)) (dimension_at m (cell Exterior Interior)) (greater-least d Zero) (omega arith) (omega arith) (omega arith))
+    (with_cells-least m (greater d Zero) (dimension_at m (cell Interior Boundary)) (dimension_at m (cell Interior Exterior))
+    (dimension_at m (cell Exterior Interior)) (greater-least d Zero) (omega arith) (omega arith) (omega arith))
     (is_present-greater_zero d)
     (rank-greater_zero d)
 
 -- Overlaps of two points or two areas is true for good once each interior is in the other in part
 overlaps_rule-known :
     (m : Matrix) →
-    IsKnown (rule_value (one_of (codes "T*T***T**" ∷ []))) m (then_some (has m Interior Interior && has m Interior Exterior && has m Exterior Interior) true)
+    IsKnown (rule_value (one_of (codes "T*T***T**" ∷ []))) m
+    (then_some (has m Interior Interior && has m Interior Exterior && has m Exterior Interior) true)
 overlaps_rule-known m =
-    confirmed_by (rule_value (one_of (codes "T*T***T**" ∷ []))) (λ x. has x Interior Interior && has x Interior Exterior && has x Exterior Interior) m
+    confirmed_by (rule_value (one_of (codes "T*T***T**" ∷ [])))
+    (λ x. has x Interior Interior && has x Interior Exterior && has x Exterior Interior) m
     (λ x. three_cells (has x Interior Interior) (has x Interior Exterior) (has x Exterior Interior))
     (rising-and (λ x. has x Interior Interior && has x Interior Exterior) (λ x. has x Exterior Interior)
     (rising-and (λ x. has x Interior Interior) (λ x. has x Interior Exterior) (rising-has Interior Interior) (rising-has Interior Exterior))
@@ -244,7 +260,8 @@ overlaps_rule-known m =
 
 pub overlaps_points-known :
     (m : Matrix) →
-    IsKnown (name_value Overlaps Zero Zero) m (then_some (has m Interior Interior && has m Interior Exterior && has m Exterior Interior) true)
+    IsKnown (name_value Overlaps Zero Zero) m
+    (then_some (has m Interior Interior && has m Interior Exterior && has m Exterior Interior) true)
 overlaps_points-known m = overlaps_rule-known m
 
 pub overlaps_areas-known :
@@ -264,7 +281,8 @@ overlaps_lines-known m =
     (λ x. is_lines (dimension_at x (cell Interior Interior)) (has x Interior Exterior) (has x Exterior Interior))
     (rising-rank 2 Interior Interior)
     refl
-    (with_cells-least m (greater d One) (dimension_at m (cell Interior Boundary)) Two Two (greater-least d One) (omega arith) (rank-most (dimension_at m (cell Interior Exterior))) (rank-most (dimension_at m (cell Exterior Interior))))
+    (with_cells-least m (greater d One) (dimension_at m (cell Interior Boundary)) Two Two (greater-least d One) (omega arith)
+    (rank-most (dimension_at m (cell Interior Exterior))) (rank-most (dimension_at m (cell Exterior Interior))))
     (rank-greater_one d)
     (rank-greater_one-two d)
 

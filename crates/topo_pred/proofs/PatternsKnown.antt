@@ -51,7 +51,8 @@ abbrev moved_by : (Mark → Dim → Dim) → Pattern → Matrix → Matrix
 moved_by f p m = matrix_by (λ c. f (mark_at p c) (dimension_at m c))
 
 -- what is in its cells
-in_moved : (f : Mark → Dim → Dim) (p : Pattern) (m : Matrix) (c : Cell) → dimension_at (moved_by f p m) c ≡ f (mark_at p c) (dimension_at m c)
+in_moved :
+    (f : Mark → Dim → Dim) (p : Pattern) (m : Matrix) (c : Cell) → dimension_at (moved_by f p m) c ≡ f (mark_at p c) (dimension_at m c)
 in_moved f p m c = dimension_at-matrix_by (λ d. f (mark_at p d) (dimension_at m d)) c
 
 -- it is at least the matrix where each move is upwards

@@ -8,12 +8,16 @@ use Rattle.wkt_text.specs.declared.word.Tag.{Tag}
 use Rattle.wkt_text.specs.declared.word.Tag.TheVariants.{Plain, Z, M, Zm}
 use Rattle.wkt_text.specs.declared.token.Token.{Token}
 use Rattle.wkt_text.specs.declared.state.Role.{Role}
-use Rattle.wkt_text.specs.declared.state.Role.TheVariants.{Head, Deep, Mark, Group, PointY, WayY, Demanded, Further, EndLine, EndShell, EndHole}
+use Rattle.wkt_text.specs.declared.state.Role.TheVariants.{Head, Deep, Mark, Group, PointY, WayY, Demanded, Further, EndLine, EndShell}
+use Rattle.wkt_text.specs.declared.state.Role.TheVariants.{EndHole}
 use Rattle.wkt_text.specs.Limits.{most_depth}
 use Rattle.wkt_text.specs.Machine.{depth_role}
-use Rattle.wkt_text.specs.Grammar.{Position, empty_way, along, empty_element, bare, bracketed, empty_surface, hollow, area, empty_many, several, empty_point, point, line, polygon, points, lines, polygons, joined, apart, Geometry, simple, empty_collection, collection, Geometries, none, more, type_of_simple}
+use Rattle.wkt_text.specs.Grammar.{Position, empty_way, along, empty_element, bare, bracketed, empty_surface, hollow, area, empty_many}
+use Rattle.wkt_text.specs.Grammar.{several, empty_point, point, line, polygon, points, lines, polygons, joined, apart, Geometry, simple}
+use Rattle.wkt_text.specs.Grammar.{empty_collection, collection, Geometries, none, more, type_of_simple}
 use Rattle.wkt_text.specs.Rules.{TokenRule, unruled, nested, demanded, further, ends_line, ends_ring, Slot, slot, tokens_of}
-use Rattle.wkt_text.specs.Spelling.{further_then, more_then, position_then, others_then, along_then, way_then, element_then, gaps_then, surface_then, many_then, simple_then, head_then, geometry_then, geometries_then, spelling}
+use Rattle.wkt_text.specs.Spelling.{further_then, more_then, position_then, others_then, along_then, way_then, element_then, gaps_then}
+use Rattle.wkt_text.specs.Spelling.{surface_then, many_then, simple_then, head_then, geometry_then, geometries_then, spelling}
 use Rattle.wkt_text.proofs.Moves.{Move, move, tokens_in, course}
 use Rattle.wkt_text.proofs.Moves as moves
 

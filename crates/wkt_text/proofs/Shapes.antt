@@ -1,5 +1,6 @@
 -- What tokens build is well shaped.
-use Rattle.std.proofs.Common.{◌≡◌, ℕ, ◌+◌, ◌-◌, ◌<◌, ◌≤◌, ℤ, pos, negsuc, ◌≤ℤ◌, nat_lt, cond, Bool, true, false, Option, Some, None, Ok, List, [], ◌∷◌, length, get_or, drop, take_while, codes, ◌==◌, sum_by, refl, sym, ap, subst, ◌∙◌, arith}
+use Rattle.std.proofs.Common.{◌≡◌, ℕ, ◌+◌, ◌-◌, ◌<◌, ◌≤◌, ℤ, pos, negsuc, ◌≤ℤ◌, nat_lt, cond, Bool, true, false, Option, Some, None, Ok}
+use Rattle.std.proofs.Common.{List, [], ◌∷◌, length, get_or, drop, take_while, codes, ◌==◌, sum_by, refl, sym, ap, subst, ◌∙◌, arith}
 use Rattle.std.specs.List.{All}
 use Rattle.std.specs.Ordering.{int_eq}
 use Rattle.std.proofs.lemmas.Int.{ints}
@@ -13,7 +14,8 @@ use Rattle.plane_exact.specs.Places.{IsInLimit}
 use Rattle.plane_exact.specs.declared.point.Pt.{Pt}
 use Rattle.point_set.specs.declared.figure.Area.{Area}
 use Rattle.point_set.specs.declared.figure.Figure.{Figure}
-use Rattle.point_set.specs.Shape.{IsWayInLimit, IsLineShaped, IsClosed, IsRingShaped, IsAreaShaped, positions_of_area, positions_of, IsWellShaped}
+use Rattle.point_set.specs.Shape.{IsWayInLimit, IsLineShaped, IsClosed, IsRingShaped, IsAreaShaped, positions_of_area, positions_of}
+use Rattle.point_set.specs.Shape.{IsWellShaped}
 use Rattle.wkt_text.specs.declared.number.Numeral.{Numeral}
 use Rattle.wkt_text.specs.declared.number.Numeral.TheVariants.{Long, Malformed, Fraction, Wide, Whole}
 use Rattle.wkt_text.specs.declared.token.Token.{Token}
@@ -28,7 +30,8 @@ use Rattle.wkt_text.specs.Words.{tag_of, type_of}
 use Rattle.text_laws.specs.Numbers.{signed, size_of, ratio_of, is_minus, is_formed}
 use Rattle.text_laws.specs.Numbers as numbers
 use Rattle.wkt_text.specs.Numbers.{numeral_of}
-use Rattle.wkt_text.specs.Tokens.{tag_token, type_token, is_name, word_token, word_in, number_in, is_number_start, mark, token_in, place_of, lexeme_at}
+use Rattle.wkt_text.specs.Tokens.{tag_token, type_token, is_name, word_token, word_in, number_in, is_number_start, mark, token_in, place_of}
+use Rattle.wkt_text.specs.Tokens.{lexeme_at}
 use Rattle.wkt_text.specs.Faults.{Stands, Reads}
 use Rattle.wkt_text.specs.Rules.{tokens_of}
 use Rattle.wkt_text.specs.Spelling.{spelling}

@@ -1,6 +1,7 @@
 -- Each fault of a part is the first of all, since the parts before it are there.
 use Rattle.clap.specs.Matches.{found_of}
-use Rattle.geosop_line.proofs.FirstFaults.{figures_first, figures_made, given_on, passes_figures, passes_query, passes_rule, passes_threads, query_first, rule_first, scale_first, threads_first}
+use Rattle.geosop_line.proofs.FirstFaults.{figures_first, figures_made, given_on, passes_figures, passes_query, passes_rule, passes_threads}
+use Rattle.geosop_line.proofs.FirstFaults.{query_first, rule_first, scale_first, threads_first}
 use Rattle.geosop_line.proofs.Values.{value_is}
 use Rattle.geosop_line.proofs.line.config_of.Goals as goal
 
