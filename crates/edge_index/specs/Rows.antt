@@ -1,6 +1,6 @@
 -- The rows of an index, from what it keeps: its segments, the places of its segments in the order of its leaves, and the windows
 -- of those inner rows that have an inner child. What the other rows have follows from the segments.
-use Rattle.std.specs.Prelude.{◌≡◌, ℕ, ◌+◌, ◌-◌, ◌*◌, ◌/◌, ◌<◌, ◌≤◌, pos, nat_lt, List, length, map, slice_index}
+use Rattle.std.specs.Prelude.{if◌then◌else◌, ◌≡◌, ℕ, ◌+◌, ◌-◌, ◌*◌, ◌/◌, ◌<◌, ◌≤◌, pos, nat_lt, List, length, map, slice_index}
 use Rattle.std.specs.Prelude.{slice_index_or, IsPermutation}
 use Rattle.std.specs.Int.{int_max, int_min}
 use Rattle.std.specs.List.{range_with_len}

@@ -1,7 +1,7 @@
 -- What a figure has lies in its four envelopes; so what lies outside of a box shows that one of the four sticks out of it.
 use Rattle.std.proofs.Common.{◌≡◌, inl, inr, ◌+◌, ℤ, pos, ◌<ℤ◌, Bool, true, false, not, ◌||◌, ◌&&◌, List, [], ◌∷◌, ◌++◌, ap}
 use Rattle.std.proofs.Common.{refl, sym, subst, ◌∙◌, arith}
-use Rattle.std.specs.Prelude.{Option, Some, None, int_le}
+use Rattle.std.specs.Prelude.{if◌then◌else◌, Option, Some, None, int_le}
 use Rattle.std.specs.List.{AllByRecursion, list_all}
 use Rattle.std.proofs.lemmas.Bool.{true≢false, and_parts, or_from, or_left, or_right}
 use Rattle.plane_laws.specs.Plane.{Point}
