@@ -18,8 +18,3 @@ none_more {X} P xs i x below is none not y j j_below e p = go (cases_eq j i)
         let here : y ≡ x = sym e ∙ ap (λ (k : ℕ). get_or xs k y) same ∙ get_or_default xs i y x below ∙ sym is in
         not (subst P here p)
     go (inr apart) = none y j (omega (arith, j_below, apart)) e p
-
--- at the end none is
-pub none_all : {X : Type 0} (P : X → Type 0) (xs : List X) (n : ℕ) → n ≡ length xs → NoneBefore P xs n → (x : X) → Contains xs x → P x
-    → ⊥
-none_all P xs n whole none x there p = none x there.0 (let k = there.1 in omega (arith, k, whole)) there.2 p

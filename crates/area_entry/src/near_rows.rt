@@ -109,7 +109,7 @@ fn segs_of(alloc: Global, rows: &EdgeRows) -> Result<SegList, NoMemory>
     Ok(segs)
 }
 
-/// Whether each edge has two different ends within the limit: as those among which an edge is looked for have.
+/// Whether each edge has two different ends within the limit: the condition of a look among edges.
 pub fn are_sound(rows: &EdgeRows) -> bool
     ensures sound { IsTrue result ↔ (All IsRowSound rows.now) }
 {

@@ -83,7 +83,3 @@ joined_more segs leaves inner place box left right before within l r e = record 
         ∙ children other from
     by_case other from below (inr apart) =
         get_or-set_other inner place other box no_window apart ∙ before.each other (omega arith) below ∙ children other from
-
--- all are
-pub joined_all : (segs : List Seg) (leaves : List ℕ) (inner : List Window) → AreJoinedFrom segs leaves inner 0 → AreJoined segs leaves inner
-joined_all segs leaves inner all = record { count = all.count; each = λ place below. all.each place (omega arith) below }

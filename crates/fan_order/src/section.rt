@@ -2,7 +2,7 @@ ghost use Rattle.std.specs.Prelude.{◌↔◌, All, IsTrue};
 ghost use Rattle.fan_order.specs.Rays.{IsShort};
 
 use im_matrix::Which;
-use plane_exact::{Dir, ItemList};
+use plane_exact::{Dir, ItemList, LIMIT};
 use point_set::Hand;
 
 /// An edge, seen from a node that it holds.
@@ -33,9 +33,6 @@ impl Default for Section {
 /// Sections in order.
 pub type SectionList = ItemList<Section>;
 
-/// The greatest size that a part of a difference of two positions has.
-const SPREAD: u64 = 2_097_150;
-
 /// Whether the directions of all sections are short enough for a fan: as those between two positions are.
 pub fn are_short(sections: &SectionList) -> bool
     ensures short { IsTrue result ↔ (All (λ s. IsShort s.dir) sections.now) }
@@ -49,5 +46,6 @@ pub fn are_short(sections: &SectionList) -> bool
 fn is_short(d: Dir) -> bool
     ensures short { IsTrue result ↔ (IsShort d) }
 {
-    d.dx.unsigned_abs() <= SPREAD && d.dy.unsigned_abs() <= SPREAD
+    let spread = 2 * LIMIT.unsigned_abs();
+    d.dx.unsigned_abs() <= spread && d.dy.unsigned_abs() <= spread
 }

@@ -62,25 +62,16 @@ fn section_toward(edge: &Edge, which: Which, forward: bool) -> Section
     requires apart { ¬ (edge.now.seg.a ≡ edge.now.seg.b) }
     ensures section { IsSectionOfEdge which edge.now forward result }
 {
-    let area = area(edge.owner);
-    if forward {
-        let dir = way(edge.seg.a, edge.seg.b);
-        let hand = edge.hand;
-        Section {
-            dir,
-            hand,
-            which,
-            area,
-        }
+    let (dir, hand) = if forward {
+        (way(edge.seg.a, edge.seg.b), edge.hand)
     } else {
-        let dir = way(edge.seg.b, edge.seg.a);
-        let hand = edge.hand.opposite();
-        Section {
-            dir,
-            hand,
-            which,
-            area,
-        }
+        (way(edge.seg.b, edge.seg.a), edge.hand.opposite())
+    };
+    Section {
+        dir,
+        hand,
+        which,
+        area: area(edge.owner),
     }
 }
 

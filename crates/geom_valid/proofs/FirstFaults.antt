@@ -117,14 +117,6 @@ sound_before_on f place before here at below = by_place (cases_eq at place)
     by_place (inl same) = subst (IsSoundAt f) (sym same) here
     by_place (inr apart) = before at (omega (arith, below, apart))
 
-pub first_fault_at : (f : Figure) (place : ℕ) (which : InvalidKind) → AreSoundBefore f place → IsFirstAt f place which
-    → IsFirstFault f place (clause_of which)
-first_fault_at f place which before here = record { fails = here.fails; first = λ at other comes. by_order at other comes }
-  where
-    by_order : (at : ℕ) (other : Clause) → ComesBefore at other place (clause_of which) → ¬ Fails f at other
-    by_order at other (inl earlier) = before at earlier other
-    by_order at other (inr same) = subst (λ k. ¬ Fails f k other) (sym same.0) (here.first other same.1)
-
 -- ---- one first fault
 one_first : (f : Figure) (place other : ℕ) (clause clause' : Clause) → IsFirstFault f place clause → IsFirstFault f other clause'
     → (place ≡ other) × (clause ≡ clause')

@@ -25,7 +25,7 @@ pub record SeenBasis : Type 0 where
   pub extents : SeenExtents
   pub shells : List Window
 
--- They, one by one.
+-- What is seen of a basis, from its parts.
 abbrev pub seen_basis : Figure → List Edge → List Seg → SeenEnds → SeenExtents → List Window → SeenBasis
 seen_basis figure rows segs ends extents shells =
     record { figure = figure; rows = rows; segs = segs; ends = ends; extents = extents; shells = shells }

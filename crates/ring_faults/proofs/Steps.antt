@@ -14,10 +14,6 @@ pub all_rest : {X : Type 0} (P : X → Type 0) (xs ys : List X) → All P (xs ++
 all_rest P [] ys h = h
 all_rest P (x ∷ xs) ys h = all_rest P xs ys (All-tail P x (xs ++ ys) h)
 
--- two facts of each item
-pub all_both : {X : Type 0} (P Q : X → Type 0) (xs : List X) → All P xs → All Q xs → All (λ x. P x × Q x) xs
-all_both P Q xs h k = λ i d below. (h i d below, k i d below)
-
 -- each step of one list is apart from each of another
 abbrev pub AreAcross : List Step → List Step → Type 0
 AreAcross xs ys = All (λ x. All (IsApartFrom x) ys) xs

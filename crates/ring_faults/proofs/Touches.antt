@@ -116,15 +116,6 @@ linked_more links more p i j kept a =
     }
 
 -- ---- an edge with those at some places
--- no place so far
-pub adds_at_none : (edges : List PartEdge) (e : PartEdge) (places : List ℕ) (links : List Link)
-    → AddsTouches edges e (IsAmong edges (take 0 places)) links links
-adds_at_none edges e places links = record {
-  kept = λ l h. h;
-  sound = λ l h. inl h;
-  whole = λ f among less p c. let below = among.there.1 in absurd (omega arith);
-}
-
 -- an edge among those at one place more
 among_more : (edges : List PartEdge) (places : List ℕ) (k : ℕ) (f other : PartEdge) → k < length places
     → IsAtPlace edges (get_or places k 0) f

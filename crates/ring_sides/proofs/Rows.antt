@@ -97,10 +97,6 @@ ring_hands :
     → All (λ row. IsAreaHand area row.seg row.hand) (map (row_of owner side) edges)
 ring_hands area owner side edges h = all_rows (λ row. IsAreaHand area row.seg row.hand) owner side edges h
 
-pub nothing_added : (area : Area) (place first : ℕ) (rows : List Edge) → AddsRings area place first [] rows rows
-nothing_added area place first rows =
-    record { more = []; joined = sym (append-nil rows); edges = refl; hands = All-nil (λ row. IsAreaHand area row.seg row.hand) }
-
 -- one ring more, behind those so far
 pub ring_added :
     (area : Area) (place first : ℕ) (rings : List (List Pt)) (ring : List Pt) (k : ℕ) → k ≡ first + length rings → (side : Hand)

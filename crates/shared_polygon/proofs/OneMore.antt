@@ -11,10 +11,6 @@ use Rattle.point_set.specs.declared.figure.Figure.{Figure}
 use Rattle.point_set.specs.declared.rule.Rule.TheVariants.{Mod2}
 use Rattle.shared_polygon.specs.Places.{AreKinds, shares_in}
 
--- each share begins within the points
-pub begins_within : (count place : ℕ) → place < shares_in count → place * 3 < count
-begins_within count place below = let far = (div_ceil_times count 3 (omega arith)).1 in omega (arith, far, below)
-
 module _ (f : Figure) where
   kinds_push : (points : List Pt) (p : Pt) (kinds : List DimLoc) (kind : DimLoc) → AreKinds f points kinds
       → IsKind f Mod2 (point_of p) kind → AreKinds f (points ++ p ∷ []) (kinds ++ kind ∷ [])

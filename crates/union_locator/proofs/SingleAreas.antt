@@ -89,9 +89,6 @@ module _ (areas : List Area) (p : Point) (k : ℕ) (below : k < length areas) (h
       )
       by_loc Exterior h = All-more (λ area. location area p ≡ Exterior) areas k x.0 below h (at_here x.0 ∙ e)
 
-pub none_passed : (areas : List Area) (p : Point) → IsInAreas (take 0 areas) p Exterior
-none_passed areas p = All-nil (λ area. location area p ≡ Exterior)
-
 pub all_passed :
     (areas : List Area) (p : Point) (k : ℕ) (loc : Loc) → length areas ≤ k → IsInAreas (take k areas) p loc → IsInAreas areas p loc
 all_passed areas p k loc past h = subst (λ (xs : List Area). IsInAreas xs p loc) (take_all k areas past) h

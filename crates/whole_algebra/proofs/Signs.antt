@@ -119,40 +119,8 @@ product_nonzero a b m n e = by_sign a
     m
     (λ h. by_sign b (λ k. <ℤ_apart (pos-*-neg h k) e) n (λ k. <ℤ_apart (pos-*-pos h k) (sym e)))
 
-pub product_zero : (a b : ℤ) → a *ℤ b ≡ pos 0 → (a ≡ pos 0) ⊎ (b ≡ pos 0)
-product_zero a b e = by_sign a (λ h. inr (other (λ z. <ℤ_apart h z))) inl (λ h. inr (other (λ z. <ℤ_apart h (sym z))))
-  where
-    other : ¬ (a ≡ pos 0) → b ≡ pos 0
-    other m = by_sign b (λ k. absurd (product_nonzero a b m (<ℤ_apart k) e)) (λ z. z)
-        (λ k. absurd (product_nonzero a b m (λ z. <ℤ_apart k (sym z)) e))
-
 pub square_zero : (a : ℤ) → a *ℤ a ≡ pos 0 → a ≡ pos 0
 square_zero a e = by_sign a (λ h. absurd (<ℤ_apart (neg-*-neg h h) (sym e))) (λ z. z) (λ h. absurd (<ℤ_apart (pos-*-pos h h) (sym e)))
-
--- both factors of a positive product have one sign, those of a negative product have two
-pub product_pos : (a b : ℤ) → pos 0 <ℤ (a *ℤ b) → ((pos 0 <ℤ a) × (pos 0 <ℤ b)) ⊎ ((a <ℤ pos 0) × (b <ℤ pos 0))
-product_pos a b p = by_sign a
-    (λ h. inr (h, by_lt_z b (pos 0) (λ k. k) (λ k. clash (nonpos-*-nonneg (<ℤ_weaken h) k))))
-    (λ e. clash (none_left e))
-    (λ h. inl (h, by_lt_z (pos 0) b (λ k. k) (λ k. clash (nonneg-*-nonpos (<ℤ_weaken h) k))))
-  where
-    clash : {P : Type 0} → (a *ℤ b) ≤ℤ pos 0 → P
-    clash q = absurd (<ℤ_irrefl (<ℤ-≤ℤ_trans p q))
-
-    none_left : a ≡ pos 0 → (a *ℤ b) ≤ℤ pos 0
-    none_left e = omega (arith, linear, ap (λ x. x *ℤ b) e, zero-*ℤ b)
-
-pub product_neg : (a b : ℤ) → (a *ℤ b) <ℤ pos 0 → ((pos 0 <ℤ a) × (b <ℤ pos 0)) ⊎ ((a <ℤ pos 0) × (pos 0 <ℤ b))
-product_neg a b p = by_sign a
-    (λ h. inr (h, by_lt_z (pos 0) b (λ k. k) (λ k. clash (nonpos-*-nonpos (<ℤ_weaken h) k))))
-    (λ e. clash (none_left e))
-    (λ h. inl (h, by_lt_z b (pos 0) (λ k. k) (λ k. clash (nonneg-*-nonneg (<ℤ_weaken h) k))))
-  where
-    clash : {P : Type 0} → pos 0 ≤ℤ (a *ℤ b) → P
-    clash q = absurd (<ℤ_irrefl (<ℤ-≤ℤ_trans p q))
-
-    none_left : a ≡ pos 0 → pos 0 ≤ℤ (a *ℤ b)
-    none_left e = omega (arith, linear, ap (λ x. x *ℤ b) e, zero-*ℤ b)
 
 -- the sign of a number, from that of its product with a positive one
 pub pos_factor : (a b : ℤ) → pos 0 <ℤ a → pos 0 <ℤ (a *ℤ b) → pos 0 <ℤ b

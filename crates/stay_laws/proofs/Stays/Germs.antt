@@ -131,12 +131,6 @@ module _ (f : Figure) (shaped : IsWellShaped f) (valid : IsValid f) (rule : Rule
         },
       )
 
--- in the words of the claim
-pub figure_germ_exists :
-    (f : Figure) → IsWellShaped f → IsValid f → (rule : Rule) (v : Point) (d : Direction)
-    → (k : DimLoc) × HoldsAlong (λ p. IsKind f rule p k) v d
-figure_germ_exists f shaped valid rule v d = kind_settles f shaped valid rule v d
-
 -- ---- two figures: a pair germ exists along every direction, at every point
 -- the germ of the pair is the pair of the two parts
 pub pair_germ_exists : (a b : Figure) → AreValid a b → (rule : Rule) → LawGermExists a b rule
