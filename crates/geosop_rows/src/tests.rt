@@ -4,7 +4,7 @@ use geosop_io::{MemInputs, MemSink, NamedBytes};
 use geosop_run::{Refusal, Status};
 use im_matrix::Which;
 use memory_runs::{FIVE, MEET, Outcome, ROOM, THREE, ample, places_of, run_on};
-use pair_batch::Free;
+use pair_batch::{Free, Gate};
 use plane_exact::{NoMemory, PlaceList};
 use std::alloc::Global;
 use std::test::*;
