@@ -1,5 +1,5 @@
 ghost use Rattle.std.specs.Prelude.{◌≡◌, ◌<◌, ◌≤◌, IfOk, IfErr, None, length, option_map};
-ghost use Rattle.wkt_text.specs.Limits.{most_positions};
+ghost use Rattle.plane_exact.specs.Limits.{most_positions};
 ghost use Rattle.wkt_text.specs.Rules.{drop_fault, ends_meet, line_fault, ring_fault};
 ghost use Rattle.wkt_text.specs.Building.{place_value, StopsAt, IsWantFor, IsCounted, act, next_group, with_group, with_area, act_x};
 ghost use Rattle.wkt_text.specs.Building.{act_point, act_way, end_line, end_shell, end_hole, start_build};
@@ -9,13 +9,10 @@ use crate::number::Numeral;
 use crate::read::WktFault;
 use crate::state::Role;
 use crate::token::Token;
-use plane_exact::{NoMemory, Path, Pt};
+use plane_exact::{MOST_POSITIONS, NoMemory, Path, Pt};
 use point_set::{Area, Areas, Figure, Paths};
 use std::alloc::Global;
 use std::mem;
-
-/// The most positions that one geometry may have.
-const MOST: u32 = 1_048_576;
 
 /// Why a token isn't taken: it breaks a rule, or memory is wanting.
 #[derive(Clone, Copy, Debug, PartialEq, Eq)]
@@ -180,7 +177,7 @@ impl Build {
         ensures done { IfOk result (λ _. act_x self.old token ≡ Ok self.new) }
         ensures fault { IfErr result (λ k. act_x self.old token ≡ Err k) }
     {
-        if self.count >= MOST {
+        if self.count as usize >= MOST_POSITIONS {
             return Err(WktKind::TooMany);
         }
         let value = place_value(token)?;
