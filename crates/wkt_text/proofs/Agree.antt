@@ -20,7 +20,8 @@ use Rattle.wkt_text.specs.declared.state.Role.TheVariants.{Head, Deep, Mark, Gro
 use Rattle.wkt_text.specs.declared.control.WktKind.{WktKind}
 use Rattle.wkt_text.specs.declared.control.WktKind.TheVariants as kind
 use Rattle.wkt_text.specs.declared.build.Build.{Build}
-use Rattle.wkt_text.specs.Limits.{most_depth, most_positions}
+use Rattle.plane_exact.specs.Limits.{most_positions}
+use Rattle.wkt_text.specs.Limits.{most_depth}
 use Rattle.wkt_text.specs.Machine.{depth_role}
 use Rattle.wkt_text.specs.Grammar.{Ordinate, More, Position, Way, empty_way, along, empty_element, bare, bracketed, Surface, empty_surface}
 use Rattle.wkt_text.specs.Grammar.{hollow, area, Many, empty_many, several, Simple, empty_point, point, line, polygon, points, lines}

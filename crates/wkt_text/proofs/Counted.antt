@@ -9,7 +9,7 @@ use Rattle.wkt_text.specs.declared.state.Role.{Role}
 use Rattle.wkt_text.specs.declared.state.Role.TheVariants as role
 use Rattle.wkt_text.specs.declared.build.Build.{Build}
 use Rattle.wkt_text.proofs.Moves.{Move, tokens_in}
-use Rattle.wkt_text.specs.Limits.{most_positions}
+use Rattle.plane_exact.specs.Limits.{most_positions}
 use Rattle.wkt_text.specs.Rules.{drop_fault, ends_meet, line_fault, ring_fault}
 use Rattle.wkt_text.specs.Building.{IsCounted, begun, shells, act_by, start_build, with_x, with_point, with_position, with_line, with_shell}
 use Rattle.wkt_text.specs.Building.{with_hole, with_area}

@@ -39,7 +39,8 @@ use Rattle.wkt_text.proofs.Progress.{reads_whole}
 use Rattle.wkt_text.proofs.Keeping.{Holds, AllTokens, holds_if, holds_value, holds_unless, ring_tests, kept_along}
 use Rattle.std.specs.Char.{is_ascii_alphabetic}
 use Rattle.wkt_text.specs.declared.build.Build.{Build}
-use Rattle.wkt_text.specs.Limits.{most_bytes, most_positions}
+use Rattle.plane_exact.specs.Limits.{most_positions}
+use Rattle.wkt_text.specs.Limits.{most_bytes}
 use Rattle.wkt_text.specs.Rules.{drop_fault, same_place, ends_meet, line_fault, ring_fault}
 use Rattle.wkt_text.specs.Building.{place_value, with_x, with_point, with_position, with_line, with_area, begun, act_by, start_build}
 use Rattle.plane_exact.specs.Limits.{limit}

@@ -15,7 +15,7 @@ use Rattle.wkt_text.specs.declared.state.Role.{Role}
 use Rattle.wkt_text.specs.declared.state.Role.TheVariants as role
 use Rattle.wkt_text.specs.declared.control.WktKind.{WktKind}
 use Rattle.wkt_text.specs.declared.control.WktKind.TheVariants.{Syntax, NotWhole, TooWide, LongNumber, Deep, TooMany}
-use Rattle.wkt_text.specs.Limits.{most_positions}
+use Rattle.plane_exact.specs.Limits.{most_positions}
 use Rattle.wkt_text.specs.Rules.{drop_fault, line_fault, ring_fault}
 
 -- A step with a value, or its fault.

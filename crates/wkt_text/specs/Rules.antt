@@ -10,7 +10,8 @@ use Rattle.wkt_text.specs.declared.token.Token.TheVariants as token
 use Rattle.wkt_text.specs.declared.control.WktKind.{WktKind}
 use Rattle.wkt_text.specs.declared.control.WktKind.TheVariants.{Syntax, NotWhole, TooWide, LongNumber, RingOpen, RingShort, LineShort, Deep}
 use Rattle.wkt_text.specs.declared.control.WktKind.TheVariants.{TooMany}
-use Rattle.wkt_text.specs.Limits.{most_depth, most_positions}
+use Rattle.plane_exact.specs.Limits.{most_positions}
+use Rattle.wkt_text.specs.Limits.{most_depth}
 
 -- The rule of a token: that of the word of a collection in so many others; of the first or the second ordinate of a position; of
 -- a third or fourth ordinate that the tag demands, and of one where there is no tag; of the bracket that ends a line or a ring

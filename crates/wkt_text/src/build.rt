@@ -1,5 +1,5 @@
-ghost use Rattle.std.specs.Prelude.{◌≡◌, ◌<◌, ◌≤◌, IfOk, IfErr, length};
-ghost use Rattle.wkt_text.specs.Limits.{most_positions};
+ghost use Rattle.std.specs.Prelude.{◌≡◌, ◌<◌, ◌≤◌, IfOk, IfErr, None, length, option_map};
+ghost use Rattle.plane_exact.specs.Limits.{most_positions};
 ghost use Rattle.wkt_text.specs.Rules.{drop_fault, ends_meet, line_fault, ring_fault};
 ghost use Rattle.wkt_text.specs.Building.{place_value, StopsAt, IsWantFor, IsCounted, act, next_group, with_group, with_area, act_x};
 ghost use Rattle.wkt_text.specs.Building.{act_point, act_way, end_line, end_shell, end_hole, start_build};
@@ -9,13 +9,10 @@ use crate::number::Numeral;
 use crate::read::WktFault;
 use crate::state::Role;
 use crate::token::Token;
-use plane_exact::{NoMemory, Path, Pt};
+use plane_exact::{MOST_POSITIONS, NoMemory, Path, Pt};
 use point_set::{Area, Areas, Figure, Paths};
 use std::alloc::Global;
 use std::mem;
-
-/// The most positions that one geometry may have.
-const MOST: u32 = 1_048_576;
 
 /// Why a token isn't taken: it breaks a rule, or memory is wanting.
 #[derive(Clone, Copy, Debug, PartialEq, Eq)]
@@ -180,7 +177,7 @@ impl Build {
         ensures done { IfOk result (λ _. act_x self.old token ≡ Ok self.new) }
         ensures fault { IfErr result (λ k. act_x self.old token ≡ Err k) }
     {
-        if self.count >= MOST {
+        if self.count as usize >= MOST_POSITIONS {
             return Err(WktKind::TooMany);
         }
         let value = place_value(token)?;
@@ -189,15 +186,21 @@ impl Build {
         Ok(())
     }
 
+    /// The position that this second ordinate ends, where a first is there, which is awaited no more.
+    fn end_position(&mut self, y: i64) -> Option<Pt>
+        ensures ended { result ≡ option_map (λ x. record { x = x; y = y }) self.old.x }
+        ensures done { self.new ≡ record self.old { x = None } }
+    {
+        self.x.take().map(|x| Pt { x, y })
+    }
+
     /// Takes the second ordinate of a loose point.
     fn take_point(&mut self, token: Token) -> Result<(), Stop>
         ensures done { IfOk result (λ _. act_point self.old token ≡ Ok self.new) }
         ensures stop { IfErr result (λ e. StopsAt e (act_point self.old token)) }
     {
-        let y = place_value(token)?;
-        if let Some(x) = self.x {
-            self.figure.points.push(Pt { x, y })?;
-            self.x = None;
+        if let Some(position) = self.end_position(place_value(token)?) {
+            self.figure.points.push(position)?;
         }
         Ok(())
     }
@@ -207,10 +210,8 @@ impl Build {
         ensures done { IfOk result (λ _. act_way self.old token ≡ Ok self.new) }
         ensures stop { IfErr result (λ e. StopsAt e (act_way self.old token)) }
     {
-        let y = place_value(token)?;
-        if let Some(x) = self.x {
-            self.way.push(Pt { x, y })?;
-            self.x = None;
+        if let Some(position) = self.end_position(place_value(token)?) {
+            self.way.push(position)?;
         }
         Ok(())
     }
